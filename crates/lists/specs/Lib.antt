@@ -1,0 +1,4 @@
+-- Lists of bytes, and choices by a test: what the definition of document 01 is written with, and their laws.
+pub mod Bytes
+pub mod Over
+pub mod Choice

@@ -1,0 +1,1 @@
+// Theorems over the definition: secrets stay secret. No code.

@@ -1,0 +1,970 @@
+/* tests.c: the second program's own tests; `second selftest`. Hexadecimal texts may hold blanks. */
+#define _POSIX_C_SOURCE 200809L
+#include <stdio.h>
+#include <stdlib.h>
+#include <string.h>
+#include <sys/wait.h>
+#include <unistd.h>
+#include "second.h"
+
+static u32 tests, failures;
+
+static void expect(flag ok, const char *what)
+{
+    tests++;
+    if (!ok) {
+        failures++;
+        printf("FAILED: %s\n", what);
+    }
+}
+
+/* ---------------------------------------------------------------- making inputs */
+
+static u32 value_of(char c)
+{
+    return (u32)(c <= '9' ? c - '0' : c - 'A' + 10);
+}
+
+static u32 bytes_of(u8 *to, const char *hex)
+{
+    u32 n = 0;
+    while (*hex != 0) {
+        if (*hex == ' ') {
+            hex++;
+            continue;
+        }
+        to[n++] = (u8)(value_of(hex[0]) << 4 | value_of(hex[1]));
+        hex += 2;
+    }
+    return n;
+}
+
+static void make_record(u8 *r, u8 kind, u8 p1, const char *hex)
+{
+    memset(r, 0, RECORD);
+    r[0] = kind;
+    r[1] = p1;
+    r[3] = (u8)bytes_of(r + 4, hex);
+}
+
+static flag same(const u8 *bytes, u32 n, const char *hex)
+{
+    u8 other[2048];
+    return bytes_of(other, hex) == n && memcmp(bytes, other, n) == 0;
+}
+
+#define NAMES "05 5041434B41 06 4D4F44554C45 "
+#define NAME "315449432E"
+#define LOAD_INSTALL NAMES "05" NAME "010002C90000"
+#define DF "3F00 00 02 00 00 00 00000000 00000000 0000 00 "
+#define DF_INVALID "3F00 00 02 00 00 00 00000000 00000000 0000 01 "
+#define LINEAR_29_3 "2001 08 04 02 1D 03 1F101000 00010300 0000 00 "
+#define COUNTERS_11 "2002 09 04 09 0B 01 00000000 00000000 0000 00 "
+#define BINARY_300 "2003 0A 04 01 01 2C 00000000 00000000 0000 00 "
+#define SIMULATED_3 "2004 0B 04 08 03 01 00000000 00000000 0903 00 "
+#define SIMULATED_4 "2004 0B 04 08 03 01 00000000 00000000 0904 00 "
+#define G2000 "2000 08 0102030405060708 "
+#define G2100 "2100 07 1E112233440000 "
+#define G2200 "2200 03 010203 "
+#define G3100 "3100 5A " DF LINEAR_29_3 COUNTERS_11 BINARY_300 SIMULATED_3
+#define G3800 "3800 02 A801 "
+#define KEYS "4101 01 A1 4102 01 A2 4103 01 A3 "
+#define G4104 "4104 01 A4 "
+#define ORDER_HEX G2000 G2100 G2200 G3100 G3800 KEYS G4104 "0801 02 1122 0A00 01 77 "
+
+static struct card card;
+static u8 area[AREA], answer[ANSWER];
+static u32 answer_length;
+
+static void make_chip(u8 *chip, u8 capacity)
+{
+    u32 i;
+    memset(chip, 0, CHIP);
+    for (i = 0; i < 36; i++)
+        chip[i] = (u8)(0x10 + i);
+    chip[36] = capacity;
+}
+
+static u16 send(u8 kind, u8 p1, const char *hex)
+{
+    u8 r[RECORD];
+    struct step s;
+    make_record(r, kind, p1, hex);
+    s = play(&card, area, AREA, answer, ANSWER, r, RECORD);
+    expect(s.number == 0, "a well-formed event is not refused");
+    expect(sound(&card), "the card stays sound");
+    answer_length = s.answer_length;
+    return s.word;
+}
+
+static u16 store(u8 p1, const char *hex)
+{
+    return send(STORE_DATA, p1, hex);
+}
+
+/* A card of this capacity: fresh, installed, selected. */
+static void start(u8 capacity)
+{
+    u8 chip[CHIP];
+    make_chip(chip, capacity);
+    expect(fresh(&card, chip, CHIP) == 0, "the chip record passes");
+    memset(area, 0xEE, AREA);
+    expect(send(INSTALL, 0x0C, LOAD_INSTALL) == 0x9000, "INSTALL 0C");
+    expect(send(SELECT, 0x00, NAME) == 0x9000, "SELECT");
+}
+
+/* The same after '9484' and this much more. */
+static void load(const char *hex)
+{
+    start(20);
+    expect(store(0x01, "948400") == 0x9000, "9484");
+    if (*hex != 0)
+        expect(store(0x00, hex) == 0x9000, "the load passes");
+}
+
+static flag state_is(u8 gp, u8 internal)
+{
+    return card.gp == gp && card.internal == internal;
+}
+
+static flag locked(void)
+{
+    return state_is(0x87, 0x5A) && !card.selected && card.open_tag == 0;
+}
+
+/* ---------------------------------------------------------------- numbered examples */
+
+static flag length_is(const char *hex, u32 length)
+{
+    u8 bytes[8];
+    struct header h;
+    u32 n = bytes_of(bytes, hex);
+    return read_header(bytes, n, &h) == PASSED && h.length == length && h.size == n;
+}
+
+static void example_1(void)
+{
+    expect(length_is("3800 FE", 254), "1: FE is 254");
+    expect(length_is("3800 FF01AF", 431), "1: FF 01 AF is 431");
+    expect(length_is("3800 FF0005", 5), "1: FF 00 05 is 5");
+    start(20);
+    expect(store(0x00, "3800 FFFFFF") == 0x6A80 && state_is(0x07, 0xCC), "1: FF FF FF 6A80");
+    load(G2000 G2100 G3100 "3800 FF0005 0102030405");
+    expect(card.secrets[0].length == 5, "1: a long form of a short value is kept");
+}
+
+static void example_2(void)
+{
+    u8 d[DESCRIPTOR];
+    bytes_of(d, LINEAR_29_3);
+    expect(file_size(d) == 87, "2: linear 29 x 3 is 87");
+    bytes_of(d, BINARY_300);
+    expect(file_size(d) == 300, "2: binary 01 2C is 300");
+    load(G2000 G2100 "3100 24 " DF BINARY_300);
+    expect(card.descriptors == 2, "2: binary 01 2C passes");
+    load(G2000 G2100);
+    expect(store(0x00, "3100 24 " DF "2003 0A 04 01 00 00 00000000 00000000 0000 00") == 0x6A80 && locked(),
+           "2: binary 00 00 6A80");
+}
+
+static void example_3(void)
+{
+    load(G2000 G2100 "3100 36 " DF COUNTERS_11 SIMULATED_3);
+    expect(card.descriptors == 3, "3: number 3 passes");
+    load(G2000 G2100);
+    expect(store(0x00, "3100 36 " DF COUNTERS_11 SIMULATED_4) == 0x6A80 && locked(), "3: number 4 6A80");
+    expect(card.descriptors == 2 && card.rows == 0x07, "3: passed descriptors stay, row 5 isn't taken");
+}
+
+static void example_4(void)
+{
+    load(G2000 G2100 G3100);
+    expect(card.rows == 0x17, "4: 3100 after 2100 passes");
+    expect(store(0x00, G2200) == 0x6985 && locked(), "4: a later 2200 6985, locked");
+}
+
+static void example_5(void)
+{
+    load(G2000 G2100 G3100 G3800 KEYS);
+    expect(store(0x00, "0801 01 AA") == 0x9000, "5: 0801 passes");
+    expect(store(0x00, "0803 01 BB") == 0x9000, "5: 0803 passes");
+    expect(store(0x00, "0801 01 CC") == 0x6985 && locked(), "5: 0801 again 6985");
+    expect(area[0] == 0xAA && area[58] == 0xBB, "5: the records are written");
+}
+
+static u16 asked(u8 capacity, const char *hex)
+{
+    start(capacity);
+    store(0x01, "948400");
+    store(0x00, G2000);
+    return store(0x00, hex);
+}
+
+static void example_6(void)
+{
+    expect(asked(5, "2100 07 37000000000000") == 0x6A84 && locked(), "6: capacity 5 6A84");
+    expect(asked(6, "2100 07 37000000000000") == 0x9000 && card.startup[0] == 6, "6: capacity 6, asked 55: 6");
+    expect(asked(20, "2100 07 05000000000000") == 0x6A80 && locked(), "6: asked 5 6A80");
+    expect(asked(20, "2100 07 38000000000000") == 0x6A80 && locked(), "6: asked 56 6A80");
+    expect(asked(20, "2100 07 06000000000000") == 0x9000 && card.startup[0] == 6, "6: asked 6 is kept");
+    expect(asked(5, "2100 07 05000000000000") == 0x6A80, "6: asked 5 on capacity 5 6A80");
+    expect(asked(20, "2100 07 06000000000100") == 0x6A80, "6: last two not zero 6A80");
+}
+
+static u16 key_of_length(u32 length)
+{
+    char hex[200] = "3800 00";
+    u32 i;
+    sprintf(hex, "3800 %02X", length);
+    for (i = 0; i < length; i++)
+        strcat(hex, "5C");
+    load(G2000 G2100 G3100);
+    return store(0x00, hex);
+}
+
+static void example_7(void)
+{
+    expect(key_of_length(1) == 0x9000 && card.secrets[0].length == 1, "7: key length 1 passes");
+    expect(key_of_length(64) == 0x9000 && card.secrets[0].length == 64, "7: key length 64 passes");
+    expect(key_of_length(0) == 0x6700 && locked(), "7: key length 0 6700");
+    expect(key_of_length(65) == 0x6700 && locked(), "7: key length 65 6700");
+}
+
+static void example_8(void)
+{
+    start(20);
+    expect(store(0x01, "84F200") == 0x9000 && same(answer, answer_length, "9F 70 01 07 9F DC 01 CC"), "8: 84F2");
+}
+
+static void example_9(void)
+{
+    start(20);
+    expect(store(0x00, "2000") == 0x6A80 && state_is(0x07, 0xCC) && card.selected, "9: 20 00 in CC unlocked");
+    load(G2000);
+    expect(card.open_tag == 0 && store(0x00, "2000") == 0x6A80 && locked(), "9: 20 00 in 5A locked");
+}
+
+static void example_10(void)
+{
+    start(20);
+    expect(store(0x00, G2000) == 0x6985 && state_is(0x87, 0x5A), "10: 2000 before 9484 6985, 87, 5A");
+}
+
+static void example_11(void)
+{
+    load(G2000 G2100 G3100 G3800 "4101 01 A1 4102 01 A2");
+    expect(store(0x80, "0801 00") == 0x6985 && locked(), "11: 0801 before 4103 6985");
+    load(G2000 G2100 G3100 G3800 "4101 01 A1");
+    expect(store(0x80, "4102 01 A2") == 0x6985 && locked(), "11: bit 8 without 4103 6985, locked");
+    load(G2000 G2100 G3100 G3800 "4101 01 A1 4102 01 A2");
+    expect(store(0x80, "4103 01 A3") == 0x9000 && state_is(0x07, 0xA5) && card.selected, "11: with it A5");
+}
+
+/* 252 bytes of groupings (a secret of 64 and two records among them), then a 3-byte spannable header. */
+static void example_12(void)
+{
+    u8 chip[CHIP], order[ORDER], room[20 * RECORD];
+    u32 n = bytes_of(order, G2000 G2100 G3100 G3800 KEYS "4104 40");
+    struct ran done;
+    make_chip(chip, 20);
+    memset(order + n, 0x22, 64);
+    n += 64 + bytes_of(order + n + 64, "0801 1D");
+    memset(order + n, 0x33, 29);
+    n += 29 + bytes_of(order + n + 29, "0802 FF0011");
+    memset(order + n, 0x44, 17);
+    n += 17;
+    expect(n == 252, "12: 252 bytes");
+    n += bytes_of(order + n, "0A00 02 5566");
+    done = write_order(chip, CHIP, order, n, room, sizeof room);
+    expect(done.number == 0 && done.records == 3, "12: three records");
+    expect(room[RECORD + 3] == 255 && room[RECORD + 1] == 0x00, "12: the header fits in the second");
+    expect(same(room + RECORD + 4 + 252, 3, "0A00 02"), "12: it is there");
+    expect(room[2 * RECORD + 3] == 2 && room[2 * RECORD + 1] == 0x80, "12: its value opens the next");
+    expect(same(room + 2 * RECORD + 4, 2, "5566"), "12: the value");
+}
+
+/* ---------------------------------------------------------------- the modes, as programs */
+
+struct mode_run { u8 bytes[200000]; u32 length; int status; };
+
+/* Runs a mode in a child process on these bytes. */
+static void run_child(const char *mode, const u8 *in, u32 length, struct mode_run *m)
+{
+    FILE *from = tmpfile(), *to = tmpfile();
+    pid_t child;
+    if (from == NULL || to == NULL) {
+        perror("tmpfile");
+        exit(1);
+    }
+    fwrite(in, 1, length, from);
+    fflush(from);
+    rewind(from);
+    fflush(stdout);
+    child = fork();
+    if (child == 0) {
+        dup2(fileno(from), 0);
+        dup2(fileno(to), 1);
+        if (freopen("/dev/null", "w", stderr) == NULL)
+            _exit(99);
+        _exit(run_mode(mode));
+    }
+    waitpid(child, &m->status, 0);
+    m->status = WEXITSTATUS(m->status);
+    rewind(to);
+    m->length = (u32)fread(m->bytes, 1, sizeof m->bytes, to);
+    fclose(from);
+    fclose(to);
+}
+
+static flag wrote(const struct mode_run *m, const char *text)
+{
+    return m->length == strlen(text) && memcmp(m->bytes, text, m->length) == 0;
+}
+
+static u32 sample_session(u8 *s)
+{
+    make_chip(s, 20);
+    make_record(s + CHIP, INSTALL, 0x0C, LOAD_INSTALL);
+    make_record(s + CHIP + RECORD, SELECT, 0x00, NAME);
+    make_record(s + CHIP + 2 * RECORD, STORE_DATA, 0x01, "948400");
+    make_record(s + CHIP + 3 * RECORD, STORE_DATA, 0x01, "84F200");
+    make_record(s + CHIP + 4 * RECORD, STORE_DATA, 0x00, G2100);
+    make_record(s + CHIP + 5 * RECORD, SELECT, 0x00, NAME);
+    return CHIP + 6 * RECORD;
+}
+
+static void replay_sample(void)
+{
+    static struct mode_run m;
+    static u8 s[CHIP + 7 * RECORD];
+    u32 n = sample_session(s);
+    static const char text[] = "00001 01 00 9000 07 CC 00\n00002 03 00 9000 07 CC 00\n"
+                               "00003 02 00 9000 07 CC 01\n00004 02 00 9000 07 CC 01\n"
+                               "00005 02 00 6985 87 5A 01\n00006 03 00 6283 87 5A 01\nEND 00006\n";
+    run_child("replay", s, n, &m);
+    expect(wrote(&m, text) && m.status == 0, "replay: the paper's sample");
+    run_child("replay", s, n + 259, &m);
+    expect(wrote(&m, text), "replay: a torn last record is not an event");
+    run_child("replay", s, 39, &m);
+    expect(wrote(&m, "END 00000\n"), "replay: 39 bytes");
+    run_child("replay", s, CHIP, &m);
+    expect(wrote(&m, "END 00000\n"), "replay: no events");
+    s[CHIP] = 200;
+    s[CHIP + RECORD] = 0;
+    run_child("replay", s, CHIP + 2 * RECORD, &m);
+    expect(wrote(&m, "00001 99 04 0000 00 CC 00\n00002 00 04 0000 00 CC 00\nEND 00002\n"), "replay: bad kinds");
+    s[39] = 1;
+    run_child("replay", s, n, &m);
+    expect(wrote(&m, "END 00000\n"), "replay: a refused chip record");
+    run_child("trace", s, n, &m);
+    expect(wrote(&m, "REFUSED 07\n"), "trace: a refused chip record");
+}
+
+static void replay_numbers(void)
+{
+    u8 line[26], r[RECORD] = { 8 };
+    start(20);
+    replay_line(line, 99999, r, 5, 0x6A80, &card);
+    expect(memcmp(line, "99999 08 05 6A80 07 CC 00\n", 26) == 0, "replay: event 99999");
+    replay_line(line, 10000000001ull, r, 0, 0x9000, &card);
+    expect(memcmp(line, "00001 08 00 9000 07 CC 00\n", 26) == 0, "replay: the last five digits");
+}
+
+static void trace_sample(void)
+{
+    static struct mode_run m;
+    static u8 s[CHIP + 7 * RECORD];
+    char text[12000];
+    u32 i;
+    sample_session(s);
+    make_record(s + CHIP + 3 * RECORD, STORE_DATA, 0x00, G2000 G2100 "3100 24 3F00");
+    run_child("trace", s, CHIP + 4 * RECORD, &m);
+    strcpy(text, "0 9000 07 CC 0 315449432E 0000 - 0000000000000000 00000000000000 200000 - - - - - 0 - - - 00000000\n"
+                 "0 9000 07 CC 1 315449432E 0000 6F078405315449432E 0000000000000000 00000000000000 200000"
+                 " - - - - - 0 - - - 00000000\n"
+                 "0 9000 07 CC 1 315449432E 0001 101112131415161718191A1B1C1D1E1F20212223"
+                 " 0000000000000000 00000000000000 200000 - - - - - 0 - - - 00000000\n"
+                 "0 9000 07 5A 1 315449432E 0007 - 0102030405060708 14112233440000 200000"
+                 " - - - - - 0 - 3100:2:34 3F00 00000000\nAREA ");
+    for (i = 0; i < 2 * AREA; i++)
+        strcat(text, "0");
+    strcat(text, "\n");
+    expect(wrote(&m, text), "trace: four events");
+}
+
+static void cut_and_groupings(void)
+{
+    static struct mode_run m, n;
+    static u8 job[CHIP + ORDER + 1];
+    u32 length;
+    make_chip(job, 20);
+    length = CHIP + bytes_of(job + CHIP, ORDER_HEX);
+    run_child("cut", job, length, &m);
+    expect(m.status == 0 && m.length == CHIP + 4 * RECORD && memcmp(m.bytes, job, CHIP) == 0, "cut: its size");
+    expect(same(m.bytes + CHIP, 37, "01 0C 00 21 08 315449432E504B47 08 315449432E4D4F44 08 315449432E494341"
+                                    "010002C90000"), "cut: INSTALL");
+    expect(same(m.bytes + CHIP + RECORD, 12, "03 00 00 08 315449432E494341"), "cut: SELECT");
+    expect(same(m.bytes + CHIP + 2 * RECORD, 7, "02 01 00 03 948400"), "cut: 9484");
+    run_child("replay", m.bytes, m.length, &n);
+    expect(wrote(&n, "00001 01 00 9000 07 CC 00\n00002 03 00 9000 07 CC 00\n00003 02 00 9000 07 CC 01\n"
+                     "00004 02 00 9000 07 A5 11\nEND 00004\n"), "cut and replay: personalized");
+    run_child("cut", job, 39, &m);
+    expect(m.status == 1 && m.length == 0, "cut: 39 bytes refused");
+    run_child("cut", job, length - 1, &m);
+    expect(m.status == 1 && m.length == 0, "cut: an order not complete refused");
+    run_child("cut", job, sizeof job, &m);
+    expect(m.status == 1 && m.length == 0, "cut: an order of 8,193 bytes refused");
+    length = bytes_of(job, "2000 02 0A0B 0000 00 FFFF FF0001 0C");
+    run_child("groupings", job, length, &m);
+    expect(wrote(&m, "2000 0A0B\n0000 -\nFFFF 0C\nend\n"), "groupings: end");
+    run_child("groupings", job, length - 1, &m);
+    expect(wrote(&m, "2000 0A0B\n0000 -\ntorn\n"), "groupings: torn value");
+    run_child("groupings", job, 6, &m);
+    expect(wrote(&m, "2000 0A0B\ntorn\n"), "groupings: torn header");
+    run_child("groupings", job, 0, &m);
+    expect(wrote(&m, "end\n"), "groupings: nothing");
+}
+
+/* Two values of 65,534 bytes, one of 5 and a torn end: more than the window holds. */
+static void groupings_long(void)
+{
+    static u8 in[150000];
+    static struct mode_run m;
+    static const u8 head[5] = { 0x12, 0x34, 0xFF, 0xFF, 0xFE };
+    u32 n = 0, i;
+    for (i = 0; i < 2; i++) {
+        memcpy(in + n, head, 5);
+        memset(in + n + 5, 0x5A, 65534);
+        n += 65539;
+    }
+    n += bytes_of(in + n, "0001 FF0005 0102030405 7777 FFFFFF 00");
+    run_child("groupings", in, n, &m);
+    expect(m.status == 0 && m.length == sizeof m.bytes, "groupings: long values fill the capture");
+    expect(memcmp(m.bytes, "1234 5A5A", 9) == 0, "groupings: the first long value");
+    expect(memcmp(m.bytes + 5 + 131068, "\n1234 5A", 8) == 0, "groupings: the second long value");
+    run_child("groupings", in + 65539, n - 65539, &m);
+    expect(m.length == 5 + 131068 + 1 + 16 + 5 &&
+           memcmp(m.bytes + 5 + 131068, "\n0001 0102030405\ntorn\n", 22) == 0, "groupings: FFFF is torn");
+}
+
+/* ---------------------------------------------------------------- orders of refusal numbers */
+
+static struct card before;
+static u8 area_before[AREA], answer_before[ANSWER];
+
+static void remember(void)
+{
+    memcpy(&before, &card, sizeof card);
+    memcpy(area_before, area, AREA);
+    memcpy(answer_before, answer, ANSWER);
+}
+
+static flag unchanged(void)
+{
+    return memcmp(&before, &card, sizeof card) == 0 && memcmp(area_before, area, AREA) == 0 &&
+           memcmp(answer_before, answer, ANSWER) == 0;
+}
+
+static void refused(u32 number, u32 area_length, u32 room, const u8 *r, u32 length, const char *what)
+{
+    struct step s;
+    remember();
+    s = play(&card, area, area_length, answer, room, r, length);
+    expect(s.number == number && s.word == 0 && s.answer_length == 0, what);
+    expect(unchanged(), "a refusal changes nothing");
+}
+
+static void numbers_of_an_event(void)
+{
+    u8 r[RECORD + 1];
+    load(G2000);
+    memset(r, 0x77, sizeof r);
+    card.rows = 0x8000;
+    refused(1, 4095, 63, r, 259, "event: 1 first");
+    refused(1, 4097, 64, r, 260, "event: 1 for a longer area");
+    refused(2, 4096, 63, r, 259, "event: 2 next");
+    refused(6, 4096, 64, r, 259, "event: 6 next");
+    card.rows = 0x0003;
+    refused(3, 4096, 64, r, 259, "event: 3 next");
+    refused(3, 4096, 64, r, 261, "event: 3 for a longer record");
+    refused(4, 4096, 64, r, 260, "event: 4 next");
+    r[0] = 0;
+    refused(4, 4096, 64, r, 260, "event: kind 0");
+    r[0] = 9;
+    refused(4, 4096, 64, r, 260, "event: kind 9");
+    r[0] = 7;
+    refused(5, 4096, 64, r, 260, "event: 5 last, for kinds 4 to 8 too");
+    expect(state_is(0x07, 0x5A), "event: a refused record does not lock");
+    make_record(r, LOCK, 0x99, "AABB");
+    r[2] = 0x55;
+    expect(play(&card, area, AREA, answer, 200, r, RECORD).word == 0x6985 && locked(), "event: P1, P2, data free");
+}
+
+static void padding(void)
+{
+    u8 r[RECORD];
+    u32 i;
+    start(20);
+    for (i = 9; i < RECORD; i++) {
+        make_record(r, SELECT, 0x00, NAME);
+        r[i] = 1;
+        refused(5, 4096, 64, r, RECORD, "event: each byte past n");
+    }
+    memset(r, 0x01, RECORD);
+    r[3] = 255;
+    refused(5, 4096, 64, r, RECORD, "event: the last byte");
+    r[259] = 0;
+    expect(record_form(r) == 0, "event: 255 data bytes");
+}
+
+static void numbers_of_a_session(void)
+{
+    u8 s[3 * RECORD];
+    u16 words[4] = { 0x1111, 0x2222, 0x3333, 0x4444 };
+    struct ran d;
+    load(G2000);
+    make_record(s, SELECT, 0x00, NAME);
+    make_record(s + RECORD, 0, 0x00, "");
+    make_record(s + 2 * RECORD, DESELECT, 0x00, "");
+    card.internal = 0x00;
+    remember();
+    d = run(&card, area, 4095, s, 779, words, 1);
+    expect(d.number == 1 && d.records == 0, "session: 1 first");
+    d = run(&card, area, 4096, s, 779, words, 1);
+    expect(d.number == 6 && d.records == 0, "session: 6 next");
+    card.internal = 0x5A;
+    remember();
+    d = run(&card, area, 4096, s, 779, words, 1);
+    expect(d.number == 3 && d.records == 0, "session: 3 next");
+    d = run(&card, area, 4096, s, 780, words, 2);
+    expect(d.number == 11 && d.records == 0, "session: 11 last");
+    expect(unchanged() && words[0] == 0x1111, "session: a refusal changes nothing");
+    d = run(&card, area, 4096, s, 0, words, 0);
+    expect(d.number == 0 && d.records == 0 && unchanged(), "session: of 0 bytes");
+    d = run(&card, area, 4096, s, 780, words, 3);
+    expect(d.number == 0 && d.records == 3 && locked(), "session: an exact fit passes");
+    expect(words[0] == 0x6283 && words[1] == 0 && words[2] == 0 && words[3] == 0x4444, "session: its words");
+}
+
+static flag shows(u8 sfi, u8 record, u32 start_at, u32 length)
+{
+    struct part p = shown(&card, area, AREA, sfi, record);
+    return p.number == 0 && p.bytes == area + start_at && p.length == length;
+}
+
+static flag shows_nothing(u32 number, u32 area_length, u8 sfi, u8 record)
+{
+    struct part p = shown(&card, area, area_length, sfi, record);
+    return p.number == number && p.length == 0;
+}
+
+static void shown_records(void)
+{
+    load(G2000 G2100 G3100 G3800 KEYS);
+    expect(shows(0x08, 1, 0, 29) && shows(0x08, 3, 58, 29), "shown: linear");
+    expect(shows(0x09, 1, 87, 11), "shown: counters");
+    expect(shows(0x0A, 0, 98, 300), "shown: a binary file whole");
+    expect(shows_nothing(8, AREA, 0x0B, 1) && shows_nothing(8, AREA, 0x0B, 0), "shown: 08 stores nothing");
+    expect(shows_nothing(8, AREA, 0, 0) && shows_nothing(8, AREA, 0, 1), "shown: SFI 0");
+    expect(shows_nothing(8, AREA, 0x07, 1) && shows_nothing(8, AREA, 0xFF, 1), "shown: no such SFI");
+    expect(shows_nothing(8, AREA, 0x08, 0) && shows_nothing(8, AREA, 0x08, 4), "shown: no such record");
+    expect(shows_nothing(8, AREA, 0x0A, 1), "shown: a binary's record 1");
+    card.rows = 0xFFFF;
+    expect(shows_nothing(1, 4097, 0, 0), "shown: 1 first");
+    expect(shows_nothing(6, AREA, 0, 0), "shown: 6 next");
+    expect(taken(&card) == 16, "taken: all ones, on an unsound set too");
+    load(G2000 G2100 "3100 5A " DF LINEAR_29_3 "2002");
+    expect(shows(0x08, 2, 29, 29), "shown: while 3100 is open");
+    expect(store(0x00, "") == 0x6700 && locked() && shows(0x08, 2, 29, 29), "shown: after a lock in it");
+}
+
+static void numbers_of_the_writer(void)
+{
+    static u8 order[ORDER + 1], room[5 * RECORD];
+    u8 chip[CHIP];
+    u32 n = bytes_of(order, ORDER_HEX), i;
+    memset(room, 0x99, sizeof room);
+    make_chip(chip, 20);
+    chip[37] = 1;
+    expect(write_order(chip, CHIP, order, ORDER + 1, room, 0).number == 7, "writer: 7 first");
+    chip[37] = 0;
+    expect(write_order(chip, 39, order, ORDER + 1, room, 0).number == 7, "writer: 39 bytes");
+    expect(write_order(chip, 41, order, n, room, 0).number == 7, "writer: 41 bytes");
+    expect(write_order(chip, CHIP, order, ORDER + 1, room, 0).number == 9, "writer: 9 next");
+    expect(write_order(chip, CHIP, order, ORDER, room, 0).number == 10, "writer: 10 next");
+    expect(write_order(chip, CHIP, order, 0, room, 0).number == 10, "writer: an empty order");
+    expect(write_order(chip, CHIP, order, n, room, 2 * RECORD - 1).number == 11, "writer: 11 last");
+    for (i = 0; i < sizeof room && room[i] == 0x99; i++)
+        continue;
+    expect(i == sizeof room, "writer: a refusal changes nothing");
+    expect(write_order(chip, CHIP, order, n, room, 2 * RECORD).records == 2, "writer: an exact fit");
+    expect(room[2 * RECORD] == 0x99 && same(room, 7, "02 01 00 03 948400"), "writer: room past it stays");
+    expect(same(room + RECORD, 4, "02 80 00 96") && room[2 * RECORD - 1] == 0, "writer: the last record");
+    chip[36] = 5;
+    expect(write_order(chip, CHIP, order, n, room, sizeof room).number == 10, "writer: capacity 5");
+}
+
+static flag order_is(const char *hex, enum outcome o)
+{
+    static u8 order[ORDER];
+    u8 chip[CHIP];
+    u32 n = bytes_of(order, hex);
+    make_chip(chip, 20);
+    return judge_order(chip, order, n) == o;
+}
+
+static void orders(void)
+{
+    expect(order_is(ORDER_HEX, PASSED), "order: complete");
+    expect(order_is(G2000 G2100 G3100 G3800 KEYS, PASSED), "order: complete without the optional rows");
+    expect(order_is("948400" ORDER_HEX, B_NOT_ALONE), "order: with 9484");
+    expect(order_is("84F200", B_P1), "order: a query alone");
+    expect(order_is(ORDER_HEX "818500", B_PLACE), "order: with 8185");
+    expect(order_is(G2000 G2100 G3100 G3800 "4101 01 A1 4102 01 A2", END_MISSING), "order: a row missing");
+    expect(order_is(ORDER_HEX "0B01 00", E_TYPE), "order: an 08 record");
+    expect(order_is(G2000 G2100 G3100 G3800 KEYS "0801 03 1122", END_OPEN), "order: a value open");
+    expect(order_is(G2000 G2100 G3100 G3800 "4101 01 A1 4102 01 A2 4103 02 A3", G_CUT), "order: cut short");
+    expect(order_is(ORDER_HEX "00", A_TORN), "order: zeros left over");
+}
+
+static void fresh_cards(void)
+{
+    u8 chip[CHIP], zero[CHIP] = { 0 };
+    struct card a, b;
+    make_chip(chip, 20);
+    expect(fresh(&a, chip, CHIP) == 0 && a.counter == 200000 && a.gp == 0 && a.internal == 0xCC, "fresh");
+    expect(a.capacity == 20 && a.reference[0] == 0x10 && a.challenge[0] == 0x14 && a.traceability[0] == 0x24,
+           "fresh: its facts");
+    expect(fresh(&b, zero, CHIP) == 0 && b.counter == 200000, "fresh: of 40 zero bytes");
+    expect(fresh(&a, chip, 39) == 7 && memcmp(&a, &b, sizeof a) == 0, "fresh: 39 bytes");
+    expect(fresh(&a, chip, 41) == 7 && memcmp(&a, &b, sizeof a) == 0, "fresh: 41 bytes");
+    chip[38] = 1;
+    expect(fresh(&a, chip, CHIP) == 7 && memcmp(&a, &b, sizeof a) == 0, "fresh: a byte not zero");
+    expect(sound(&a), "fresh: sound");
+    expect(rows_agree(), "the set of mandatory rows is the table's");
+}
+
+/* ---------------------------------------------------------------- soundness, clause by clause */
+
+static struct card kept;
+
+static void given(void)
+{
+    memcpy(&card, &kept, sizeof card);
+}
+
+#define UNSOUND(change, what) do { given(); change; expect(!sound(&card), "unsound: " what); } while (0)
+#define SOUND(change, what) do { given(); change; expect(sound(&card), "sound: " what); } while (0)
+
+static void sound_states(void)
+{
+    load("");
+    memcpy(&kept, &card, sizeof card);
+    SOUND((void)0, "selected in CC");
+    UNSOUND(card.gp = 0x01, "GP 01");
+    UNSOUND((card.gp = 0x80, card.selected = 0), "GP 80");
+    UNSOUND(card.internal = 0xCD, "internal");
+    UNSOUND((card.gp = 0x03, card.internal = 0x5A, card.selected = 0), "5A at 03");
+    UNSOUND((card.gp = 0x83, card.internal = 0xA5, card.selected = 0), "A5 at 83");
+    SOUND((card.gp = 0x87, card.internal = 0xA5, card.selected = 0), "A5 at 87 with rows missing");
+    UNSOUND(card.name_length = 4, "name of 4");
+    UNSOUND(card.name_length = 17, "name of 17");
+    UNSOUND(card.name_length = 0, "no name but present");
+    UNSOUND((card.gp = 0x00, card.rows = 0, card.selected = 0), "a name but absent");
+    UNSOUND((card.gp = 0x00, card.name_length = 0, card.selected = 0), "rows but absent");
+    SOUND((card.gp = 0x00, card.rows = 0, card.name_length = 0, card.selected = 0, card.secrets[0].length = 64),
+          "absent with a secret");
+    UNSOUND(card.gp = 0x03, "selected at 03");
+    UNSOUND(card.gp = 0x87, "selected at 87");
+    UNSOUND((card.internal = 0x5A, card.selected = 0), "07 with 5A, not selected");
+    SOUND(card.rows = 0x07FF, "CC with any rows");
+    UNSOUND(card.rows = 0x0800, "row 12");
+    UNSOUND(card.secrets[4].length = 65, "a secret of 65");
+    SOUND(card.rows = 0x0010, "row 5 with no descriptor");
+    UNSOUND((card.open_tag = 0x3100, card.open_missing = 18), "open in CC");
+}
+
+static void sound_tables(void)
+{
+    load(G2000 G2100 G3100);
+    memcpy(&kept, &card, sizeof card);
+    UNSOUND(card.rows = 0x07, "descriptors without row 5");
+    SOUND((card.rows = 0x07, card.gp = 0x87, card.selected = 0), "descriptors, locked in 5A");
+    UNSOUND((card.rows = 0x07, card.gp = 0x87, card.selected = 0, card.internal = 0xA5), "descriptors, locked in A5");
+    UNSOUND(card.descriptors = 6, "a descriptor of zeros");
+    UNSOUND(card.descriptors = 32, "32 descriptors");
+    UNSOUND(card.table[0][D_SFI] = 1, "a DF with SFI 1");
+    UNSOUND((card.table[3][D_REC] = 16, card.table[3][D_NUM] = 0), "a size total over 4,096");
+    SOUND((card.table[3][D_REC] = 15, card.table[3][D_NUM] = 158), "a size total of 4,096");
+    SOUND((card.open_tag = 0x0803, card.open_missing = 29), "an open ssnn with rows missing");
+    SOUND((card.open_tag = 0x0803, card.open_count = 28, card.open_missing = 1), "an open ssnn of its record");
+    UNSOUND((card.open_tag = 0x0803, card.open_count = 29, card.open_missing = 1), "an open ssnn too long");
+    UNSOUND((card.open_tag = 0x0803, card.open_missing = 0), "an open ssnn missing nothing");
+    UNSOUND((card.open_tag = 0x0804, card.open_missing = 1), "an open ssnn that e refuses");
+    UNSOUND((card.open_tag = 0x0803, card.open_count = 0xFFFFFFFF, card.open_missing = 2), "a sum that wraps");
+    UNSOUND((card.open_tag = 0x3100, card.open_missing = 18), "3100 open with row 5");
+    UNSOUND((card.open_tag = 0x0803, card.open_missing = 1, card.gp = 0x87, card.selected = 0), "open at 87");
+    UNSOUND((card.open_tag = 0x0803, card.open_missing = 1, card.internal = 0xA5), "open in A5");
+}
+
+static void sound_open_tables(void)
+{
+    load(G2000 G2100 "3100 5A " DF LINEAR_29_3 "20");
+    memcpy(&kept, &card, sizeof card);
+    SOUND((void)0, "3100 open");
+    UNSOUND(card.open_missing = 54, "not a multiple of 18");
+    UNSOUND(card.open_missing = 17 + 28 * 18 + 18, "over 558");
+    SOUND(card.open_missing = 17 + 28 * 18, "of 558");
+    UNSOUND((card.open_count = 18, card.open_missing = 18), "18 bytes held");
+    UNSOUND((card.open_count = 0, card.open_missing = 0), "missing nothing");
+    UNSOUND(card.open_tag = 0, "descriptors, not open");
+    SOUND((card.last_tag = 0xFFFF, card.counter = 0xFFFFFFFF, card.held[17] = 9), "nothing asked of the rest");
+}
+
+/* ---------------------------------------------------------------- events */
+
+static void install_events(void)
+{
+    u8 chip[CHIP];
+    make_chip(chip, 20);
+    fresh(&card, chip, CHIP);
+    memset(area, 0xEE, AREA);
+    expect(send(INSTALL, 0x00, "") == 0x6A86, "INSTALL: P1 before form");
+    expect(send(INSTALL, 0x04, "") == 0x6A80, "INSTALL: empty");
+    expect(send(INSTALL, 0x0C, LOAD_INSTALL "00") == 0x6A80, "INSTALL: nothing may follow");
+    expect(send(INSTALL, 0x0C, NAMES "04 31544943 010002C90000") == 0x6A80, "INSTALL: a name of 4");
+    expect(send(INSTALL, 0x08, "00 00 05" NAME "01000000") == 0x6A88, "INSTALL 08: absent");
+    expect(send(LOCK, 0, "") == 0x6A88 && send(UNLOCK, 0, "") == 0x6A88, "LOCK, UNLOCK: absent");
+    expect(send(RESET, 0, "") == 0x0000 && send(DESELECT, 0, "") == 0x0000, "RESET, DESELECT: absent");
+    expect(send(SELECT, 0, "") == 0x6A82, "SELECT: absent");
+    expect(area[0] == 0xEE, "INSTALL: the area stays");
+    expect(send(INSTALL, 0x04, LOAD_INSTALL) == 0x9000 && state_is(0x03, 0xCC), "INSTALL 04");
+    expect(area[0] == 0 && area[AREA - 1] == 0, "INSTALL: the area is zeros");
+    expect(send(INSTALL, 0x04, LOAD_INSTALL) == 0x6985, "INSTALL: present");
+    expect(send(SELECT, 0, NAME) == 0x6A82, "SELECT: at 03");
+    expect(send(INSTALL, 0x08, "00 00 05" "315449432F" "01000000") == 0x6A88, "INSTALL 08: another name");
+    expect(send(LOCK, 0, "") == 0x9000 && state_is(0x83, 0xCC), "LOCK at 03");
+    expect(send(LOCK, 0, "") == 0x6985, "LOCK: locked");
+    expect(send(INSTALL, 0x08, "00 00 05" NAME "01000000") == 0x6985, "INSTALL 08: not 03");
+    expect(send(UNLOCK, 0, "") == 0x9000 && send(UNLOCK, 0, "") == 0x6985, "UNLOCK");
+    expect(send(INSTALL, 0x08, "00 00 05" NAME "01000000") == 0x9000 && state_is(0x07, 0xCC), "INSTALL 08");
+    expect(send(OTHER, 0, "") == 0x6985 && store(0x01, "84F200") == 0x6985, "not selected");
+    expect(send(SELECT, 0, NAME) == 0x9000 && send(OTHER, 0, "") == 0x6D00, "kind 4: selected");
+    expect(send(SELECT, 0, "3154494300") == 0x6A82 && card.selected, "SELECT of another name leaves it selected");
+    expect(send(SELECT, 0, "31544943") == 0x6A82, "SELECT: the length too");
+    expect(send(RESET, 0, "") == 0x0000 && !card.selected, "RESET");
+}
+
+static void kinds_in_5a(void)
+{
+    static const struct { u8 kind; const char *data; u16 word; } list[] = {
+        { INSTALL, "", 0x6985 }, { SELECT, NAME, 0x6283 }, { SELECT, "31", 0x6A82 }, { OTHER, "", 0x6985 },
+        { DESELECT, "", 0x0000 }, { RESET, "", 0x0000 }, { LOCK, "", 0x6985 }, { UNLOCK, "", 0x6985 },
+    };
+    u32 i;
+    for (i = 0; i < 8; i++) {
+        load(G2000);
+        expect(send(list[i].kind, 0x00, list[i].data) == list[i].word && locked(), "5A: each kind but 2 locks");
+        expect(send(list[i].kind, 0x00, list[i].data) == list[i].word && locked(), "5A: the same when locked");
+        expect(store(0x00, "") == 0x6985 && store(0x01, "84F200") == 0x6985, "5A: STORE DATA when locked");
+        expect(card.rows == 0x03 && card.serial[7] == 8, "5A: all else stays");
+    }
+    load(G2000);
+    send(SELECT, 0, NAME);
+    expect(same(answer, answer_length, "6F 07 84 05" NAME), "5A: the name FCI");
+    load(G2000);
+    expect(store(0x00, "") == 0x6700 && locked(), "5A: an empty STORE DATA locks");
+    start(20);
+    expect(store(0x00, "") == 0x6700 && state_is(0x07, 0xCC), "CC: an empty STORE DATA doesn't");
+}
+
+static void personalized(void)
+{
+    load(G2000 G2100 "3100 12 " DF_INVALID G3800 "4101 01 A1 4102 01 A2");
+    expect(store(0x80, "4103 01 A3") == 0x9000 && state_is(0x07, 0xA5), "A5: reached");
+    expect(send(SELECT, 0, NAME) == 0x6283 && same(answer, answer_length,
+           "6F 1F 84 05" NAME "A5 16 BF 0C 13 C7 08 0102030405060708 53 07 14112233440000"), "A5: the full FCI");
+    expect(store(0x01, "84F200") == 0x9000 && same(answer, answer_length, "9F70 01 07 9FDC 01 A5"), "A5: 84F2");
+    expect(store(0x01, "8185FF0000") == 0x9000 && answer_length == 16, "A5: 8185 in the long form");
+    expect(store(0x01, "948400") == 0x6985, "A5: 9484");
+    expect(store(0x00, "FFFF00") == 0x6985 && store(0x00, "0801") == 0x6A80, "A5: c, after a");
+    expect(store(0x80, "84F200") == 0x6A86 && state_is(0x07, 0xA5), "A5: P1");
+    expect(send(OTHER, 0, "") == 0x6D00 && send(LOCK, 0, "") == 0x9000, "A5: kind 4, LOCK");
+    expect(send(SELECT, 0, NAME) == 0x6A82 && send(UNLOCK, 0, "") == 0x9000, "A5: locked");
+    expect(store(0x01, "84F200") == 0x6985 && send(SELECT, 0, NAME) == 0x6283, "A5: selected again");
+    load(G2000 G2100 G3100 G3800 "4101 01 A1 4102 01 A2");
+    expect(store(0x80, "4103 01 A3") == 0x9000 && send(SELECT, 0, NAME) == 0x9000, "A5: not invalidated");
+}
+
+/* ---------------------------------------------------------------- groupings */
+
+static void rule_b_cases(void)
+{
+    start(20);
+    expect(store(0x00, "948401AA") == 0x6A80, "b: not empty");
+    expect(store(0x00, "948400 00") == 0x6A80, "b: not alone");
+    expect(store(0x00, "948400") == 0x6A86 && store(0x81, "948400") == 0x6A86, "b: P1");
+    expect(store(0x7F, "9484FF0000") == 0x9000 && card.rows == 1, "b: bits 2 to 7 are not read");
+    expect(store(0x01, "948400") == 0x6985 && state_is(0x07, 0xCC), "b: once");
+    expect(store(0x01, "8185 00") == 0x9000 && same(answer, answer_length, "2425262728292A2B2C2D2E2F30313233"),
+           "b: 8185");
+    load(G2000);
+    expect(store(0x01, "84F200") == 0x9000 && same(answer, answer_length, "9F70 01 07 9FDC 01 5A"), "b: in 5A");
+    expect(store(0x01, "948400") == 0x6985 && locked(), "b: 9484 in 5A locks");
+    load(G2000);
+    expect(store(0x01, G2100 "84F200") == 0x6A80 && locked() && card.rows == 0x07, "b: not at byte 0");
+    load(G2000 G2100 "3100 24 " DF "20");
+    expect(store(0x01, "84F200") == 0x9000 && answer_length == 0 && same(card.held, 4, "2084F200"),
+           "b: bytes of an open value");
+}
+
+static void rules_c_to_g(void)
+{
+    load("");
+    expect(store(0x00, "FFFF00") == 0x6A88 && state_is(0x87, 0x5A), "c: an unknown tag moves CC");
+    load("");
+    expect(store(0x00, "00FF00") == 0x6A88 && locked(), "d: 00FF unknown");
+    load("");
+    expect(store(0x00, "0100 00") == 0x6985 && locked(), "d before e");
+    load(G2000 G2100);
+    expect(store(0x00, "2100 00") == 0x6985 && locked(), "d before f");
+    load(G2000 G2100 G3100 G3800 KEYS);
+    expect(store(0x00, "1E01 FE") == 0x6A88 && locked(), "e before f");
+    load(G2000);
+    expect(store(0x00, "2100 08 AA") == 0x6700 && locked(), "f before g");
+    load(G2000);
+    expect(store(0x00, "2100 07 AA") == 0x6A80 && locked(), "g");
+    load(G2000 G2100);
+    expect(store(0x00, "3100 00") == 0x6700 && locked(), "f: 3100 of 0");
+    load(G2000 G2100);
+    expect(store(0x00, "3100 FF0240") == 0x6700 && locked(), "f: 3100 of 576");
+    load(G2000 G2100 "3100 FF022E");
+    expect(card.open_missing == 558, "f: 3100 of 558");
+    load(G2000 G2100 G3100 G3800 KEYS);
+    expect(store(0x00, "0801 1E") == 0x6700 && locked(), "f: ssnn over its record");
+    load(G2000 G2100 G2200 G3100 G3800 KEYS G4104 "0801 00");
+    expect(card.counter == 0x010203 && card.rows == 0x7FF && card.last_tag == 0x0801, "an empty ssnn takes row 11");
+    expect(store(0x00, "0801 00") == 0x6985, "an empty ssnn counts for rising");
+}
+
+static void spanned_values(void)
+{
+    load(G2000 G2100 G3100 G3800 KEYS "0802 03 A1");
+    expect(card.open_tag == 0x0802 && card.open_count == 1 && card.open_missing == 2, "ssnn: open");
+    expect(area[29] == 0xA1 && area[30] == 0 && card.rows == 0x1F7, "ssnn: written as it comes");
+    expect(store(0x80, "A2") == 0x6985 && locked() && area[30] == 0xA2, "ssnn: the end asked inside it");
+    expect(card.rows == 0x1F7 && card.last_tag == 0, "ssnn: row 11 isn't taken");
+    load(G2000 G2100 G3100 G3800 KEYS "0802 03 A1");
+    expect(store(0x80, "A2A3") == 0x9000 && state_is(0x07, 0xA5) && card.rows == 0x5F7, "ssnn: closed and ended");
+    load(G2000 G2100 "3100 24 " DF "2001 08 04 02");
+    expect(store(0x80, "1D") == 0x6985 && locked() && card.descriptors == 1, "3100: the end asked inside it");
+    load(G2000 G2100 "3100 24 " DF "FFFF FF");
+    expect(store(0x00, "00 00000000000000000000000000 00") == 0x6A80, "3100: noticed at byte 18");
+    expect(locked() && card.descriptors == 1 && same(card.held, 3, "000000"), "3100: held bytes go");
+    load(G2000 G2100 "3100 12");
+    expect(store(0x00, DF G3800) == 0x9000 && card.rows == 0x37, "3100: the next grouping behind its bytes");
+}
+
+static void descriptor_rules(void)
+{
+    static const struct { const char *hex; u16 word; } list[] = {
+        { "2009 0C 04 02 01 01 00000000 00000000 0000 00", 0x9000 },
+        { "2009 00 04 02 01 01 00000000 00000000 0000 00", 0x9000 },
+        { "2009 1F 04 02 01 01 00000000 00000000 0000 00", 0x6A80 },
+        { "2009 0C 02 02 01 01 00000000 00000000 0000 00", 0x6A80 },
+        { "2009 0C 04 03 01 01 00000000 00000000 0000 00", 0x6A80 },
+        { "2009 0C 04 02 00 01 00000000 00000000 0000 00", 0x6A80 },
+        { "2009 0C 04 02 01 00 00000000 00000000 0000 00", 0x6A80 },
+        { "2009 0C 04 02 01 01 02000000 00000000 0000 00", 0x6A80 },
+        { "2009 0C 04 02 01 01 10000000 00000000 0000 00", 0x6A80 },
+        { "2009 0C 04 02 01 01 10000000 04000000 0000 00", 0x6A80 },
+        { "2009 0C 04 02 01 01 00000000 00000001 0000 00", 0x6A80 },
+        { "2009 0C 04 02 01 01 00000000 00000000 0001 00", 0x6A80 },
+        { "2009 0C 04 02 01 01 00000000 00000000 0000 01", 0x6A80 },
+        { "3F00 0C 04 02 01 01 00000000 00000000 0000 00", 0x6A80 },
+        { "2009 08 04 02 01 01 00000000 00000000 0000 00", 0x6A80 },
+        { "2009 0C 04 01 0F 9E 00000000 00000000 0000 00", 0x6A84 },
+        { "2009 0C 04 01 0E 72 00000000 00000000 0000 00", 0x9000 },
+        { "2009 0C 04 01 0E 73 00000000 00000000 0000 00", 0x6A84 },
+        { "2009 0C 04 08 01 01 00000000 00000000 0803 00", 0x6A80 },
+        { "2009 0C 04 08 01 01 00000000 00000000 0900 00", 0x6A80 },
+        { "2009 0C 04 08 01 00 00000000 00000000 0901 00", 0x6A80 },
+        { "2009 0C 04 08 FF FF 00000000 00000000 0903 00", 0x9000 },
+        { "2009 0C 04 08 01 01 00000000 00000000 0001 00", 0x6A80 },
+    };
+    u8 d[DESCRIPTOR];
+    u32 i;
+    load(G2000 G2100 G3100);
+    for (i = 0; i < sizeof list / sizeof list[0]; i++) {
+        bytes_of(d, list[i].hex);
+        expect(word_of(judge_descriptor(&card, 5, d)) == list[i].word, list[i].hex);
+    }
+    bytes_of(d, DF);
+    d[D_STATUS] = 2;
+    expect(judge_descriptor(&card, 0, d) == T_DF_STATUS, "DF status 2");
+}
+
+static void reader_endings(void)
+{
+    u8 order[64];
+    u32 n = bytes_of(order, "2000 02 0A0B 1234 FF0000 5678 03 AA");
+    struct reader r = { order, n, 0 };
+    struct grouping g = { 0, 0, 0 };
+    expect(pull(&r, &g) == PULLED && g.tag == 0x2000 && g.value == order + 3 && g.length == 2, "reader: first");
+    expect(pull(&r, &g) == PULLED && g.tag == 0x1234 && g.length == 0 && r.at == 10, "reader: an empty value");
+    expect(pull(&r, &g) == NOT_WHOLE && r.at == 10, "reader: a value not whole, the place stays");
+    r.length = 12;
+    expect(pull(&r, &g) == NOT_WHOLE && r.at == 10, "reader: a header not whole");
+    r.length = 10;
+    expect(pull(&r, &g) == AT_END && r.at == 10, "reader: at the end");
+    r.at = 11;
+    expect(pull(&r, &g) == AT_END && r.at == 11, "reader: past the end");
+    r.length = bytes_of(order, "2000 FFFFFF 00");
+    r.at = 0;
+    expect(pull(&r, &g) == NOT_WHOLE && r.at == 0, "reader: FFFF");
+}
+
+int selftest(void)
+{
+    example_1();
+    example_2();
+    example_3();
+    example_4();
+    example_5();
+    example_6();
+    example_7();
+    example_8();
+    example_9();
+    example_10();
+    example_11();
+    example_12();
+    replay_sample();
+    replay_numbers();
+    trace_sample();
+    cut_and_groupings();
+    groupings_long();
+    numbers_of_an_event();
+    padding();
+    numbers_of_a_session();
+    shown_records();
+    numbers_of_the_writer();
+    orders();
+    fresh_cards();
+    sound_states();
+    sound_tables();
+    sound_open_tables();
+    install_events();
+    kinds_in_5a();
+    personalized();
+    rule_b_cases();
+    rules_c_to_g();
+    spanned_values();
+    descriptor_rules();
+    reader_endings();
+    if (failures != 0) {
+        printf("second: %u of %u tests failed\n", failures, tests);
+        return 1;
+    }
+    printf("second: %u tests passed\n", tests);
+    return 0;
+}
