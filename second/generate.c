@@ -278,7 +278,7 @@ static void put_file(u32 most)
 static void make_table(u32 files, enum total total, u32 share)
 {
     put_df();
-    if (files >= 3 && chance(50))
+    if (files >= 3 && chance(75))
         put_counters();
     while (table_count < files + (total == ANY_TOTAL)) {
         u32 left = AREA - table_total - (files + 1 - table_count);
@@ -416,6 +416,7 @@ static void make_long_order(u32 target)
 /* One field of one descriptor; each turn aims at one rule of the file table. */
 static void damage_table(u32 turn)
 {
+    static const u8 bad_types[6] = { 0x00, 0x03, 0x05, 0x0A, 0x10, 0xFF };
     u32 at = find(0x3100), count = items[at].length / DESCRIPTOR;
     u8 *df = value_of(&items[at]), *ef = df + DESCRIPTOR * (count > 1 ? between(1, count - 1) : 0);
     u8 *either = chance(50) ? df : ef;
@@ -429,7 +430,7 @@ static void damage_table(u32 turn)
     case 5: df[D_STATUS] = (u8)between(2, 255); break;
     case 6: ef[D_SFI] = (u8)between(0x1F, 0x21); break;
     case 7: ef[D_FILE] = (u8)(chance(50) ? 0x02 : any_byte()); break;
-    case 8: ef[D_EF] = (u8)(chance(50) ? any_byte() : below(12)); break;
+    case 8: ef[D_EF] = bad_types[below(6)]; break;
     case 9: ef[D_STATUS] = (u8)between(1, 255); break;
     case 10: memcpy(ef + D_LID, df + DESCRIPTOR * below(count), 2); break;
     case 11: ef[D_SFI] = df[DESCRIPTOR * (chance(50) ? 1 : below(count)) + D_SFI]; break;
@@ -761,6 +762,32 @@ static void add_noise(void)
     }
 }
 
+/* An event of this kind, right or wrong. */
+static void add_kind(u32 kind)
+{
+    static const u8 p1s[3] = { 0x04, 0x08, 0x0C };
+    u8 data[DATA];
+    fill(data, DATA);
+    if (kind == INSTALL && chance(60))
+        add_install(p1s[below(3)]);
+    else if (kind == INSTALL)
+        add_odd_install();
+    else if (kind == SELECT && chance(60))
+        add_select();
+    else if (kind == SELECT)
+        add_odd_select();
+    else if (kind == STORE_DATA && chance(40))
+        add_query(query_tag(), 0x01);
+    else if (kind == STORE_DATA && chance(50))
+        add_odd_query();
+    else if (kind == STORE_DATA && chance(50))
+        add_event(STORE_DATA, data[0], 0, 0);
+    else if (kind == STORE_DATA)
+        add_random_store();
+    else
+        add_event((u8)kind, data[0], data, chance(70) ? 0 : data[1]);
+}
+
 /* Moves the last event to a place before it. */
 static void move_last_to(u32 at)
 {
@@ -952,7 +979,7 @@ static void session_clean(void)
     from = events;
     set_cutting();
     cut_by_units();
-    if (chance(20))
+    if (chance(35))
         events = between(from, events);
     else
         add_epilogue();
@@ -960,7 +987,7 @@ static void session_clean(void)
 
 static void session_grouping(u32 turn)
 {
-    random_order(between(1, 8), ANY_TOTAL);
+    random_order(between(3, 8), ANY_TOTAL);
     damage_grouping(turn);
     if (chance(10) && item_count > 0)
         damage_grouping(below(100));
@@ -1024,17 +1051,43 @@ static void session_noise(void)
         add_noise();
 }
 
-/* Events put into the middle of a load, one at a time. */
-static void session_between(void)
+/* 0: nothing open; 1: '3100' open; 2: an 'ssnn' open. */
+static u32 open_kind(const struct card *c)
 {
-    u32 from;
-    random_order(between(1, 6), ANY_TOTAL);
+    return c->open_tag == 0 ? 0 : c->open_tag == 0x3100 ? 1 : 2;
+}
+
+/* A random event of the session before which the card is at '07' in '5A' with this open; else the last. */
+static u32 place_in_5a(u32 open)
+{
+    static u8 scratch[AREA];
+    u8 bytes[ANSWER];
+    struct card c;
+    u32 e, found = 0, place = events - 1;
+    (void)fresh(&c, session, CHIP);
+    for (e = 0; e < events; e++) {
+        struct answer a = { bytes, 0 };
+        if (c.gp == 0x07 && c.internal == 0x5A && open_kind(&c) == open && below(++found) == 0)
+            place = e;
+        if (record_form(record_at(e)) == 0)
+            (void)event(&c, scratch, record_at(e), &a);
+    }
+    return place;
+}
+
+/* An event of each kind in turn put into a load: with nothing, '3100' or an 'ssnn' open. */
+static void session_between(u32 turn)
+{
+    make_order(between(2, 6), ANY_TOTAL, 10);
     add_prologue(0);
-    from = events;
     set_cutting();
     close_percent = 5;
     cut_by_units();
-    insert_noise(from);
+    if (turn % 9 == 8)
+        add_refused();
+    else
+        add_kind(turn % 9 + 1);
+    move_last_to(place_in_5a(turn / 9 % 3));
     add_epilogue();
 }
 
@@ -1077,7 +1130,7 @@ static u32 make_session(u32 i)
     case 7: session_events(); break;
     case 8: session_cut(i / 12); break;
     case 9: session_noise(); break;
-    case 10: session_between(); break;
+    case 10: session_between(i / 12); break;
     default: if (i % 48 == 11) session_long(); else session_mixed(); break;
     }
     if (i % 50 == 17)
@@ -1157,6 +1210,7 @@ static struct {
     u32 outcomes[OUTCOME_COUNT], order_outcomes[OUTCOME_COUNT], numbers[12], ends[9], kinds[9];
     u32 types[10], full_tables, exact_totals, spanned, counters_set, fourth_keys, refused_chips, torn_ends;
     u32 jobs_exact, jobs_cut;
+    u32 in_5a[9][3];            /* events at '07' in '5A', by kind (0: refused) and by what is open */
 } seen;
 
 static u32 missing;
@@ -1196,6 +1250,20 @@ static void report_numbers(void)
         report(texts[i], seen.numbers[i], i != 1 && i != 2 && i != 6 && i != 8);
 }
 
+static void report_5a(void)
+{
+    static const char *const opens[3] = { "nothing open", "3100 open", "ssnn open" };
+    char text[64];
+    u32 kind, open;
+    printf("events at 07 in 5A\n");
+    for (kind = 0; kind < 9; kind++)
+        for (open = 0; open < 3; open++) {
+            sprintf(text, "%s %u, %s", kind == 0 ? "refused record, number 4 or" : "kind", kind == 0 ? 5 : kind,
+                    opens[open]);
+            report(text, seen.in_5a[kind][open], 1);
+        }
+}
+
 static void report_depth(void)
 {
     printf("depth\n");
@@ -1231,6 +1299,7 @@ static int report_all(void)
     printf("how events ended, by rule\n");
     for (i = 0; i < OUTCOME_COUNT; i++)
         report(outcome_texts[i], seen.outcomes[i], 1);
+    report_5a();
     report_depth();
     printf("how orders of jobs were judged, by rule (none wanted)\n");
     for (i = 0; i < OUTCOME_COUNT; i++)
@@ -1290,6 +1359,7 @@ static void see_events(struct card *c, u32 i)
         u32 number = record_form(r);
         seen.numbers[number]++;
         seen.events++;
+        seen.in_5a[number == 0 ? r[0] : 0][open_kind(c)] += c->gp == 0x07 && c->internal == 0x5A;
         words[e] = 0;
         if (number == 0) {
             enum outcome o = event(c, area, r, &a);

@@ -25,7 +25,9 @@ enum {
 enum kind { INSTALL = 1, STORE_DATA, SELECT, OTHER, DESELECT, RESET, LOCK, UNLOCK };
 
 /* Places of a descriptor's fields. */
-enum { D_LID = 0, D_SFI = 2, D_FILE = 3, D_EF = 4, D_REC = 5, D_NUM = 6, D_AC = 7, D_KEY = 11, D_REF = 15, D_STATUS = 17 };
+enum {
+    D_LID = 0, D_SFI = 2, D_FILE = 3, D_EF = 4, D_REC = 5, D_NUM = 6, D_AC = 7, D_KEY = 11, D_REF = 15, D_STATUS = 17
+};
 
 /* EF types. */
 enum { BINARY = 0x01, LINEAR = 0x02, CYCLIC = 0x04, SIMULATED = 0x08, COUNTERS = 0x09 };

@@ -1,0 +1,2 @@
+-- "Sound" is kept by every event.
+pub mod Choices
