@@ -249,7 +249,7 @@ static flag put_simulated(void)
 static void put_counters(void)
 {
     u8 *d = put_ef(COUNTERS);
-    d[D_REC] = (u8)between(3, 40);
+    d[D_REC] = (u8)(chance(50) ? 2 + 3 * between(1, 12) : between(3, 40));
     d[D_NUM] = (u8)between(1, 3);
     table_total += (u32)d[D_REC] * d[D_NUM];
     put_simulated();
@@ -416,7 +416,7 @@ static void make_long_order(u32 target)
 /* One field of one descriptor; each turn aims at one rule of the file table. */
 static void damage_table(u32 turn)
 {
-    static const u8 bad_types[6] = { 0x00, 0x03, 0x05, 0x0A, 0x10, 0xFF };
+    static const u8 bad_types[6] = { 0x00, 0x03, 0x05, 0x0A, 0x10, 0xFF }, bad_keys[4] = { 0, 4, 4, 255 };
     u32 at = find(0x3100), count = items[at].length / DESCRIPTOR;
     u8 *df = value_of(&items[at]), *ef = df + DESCRIPTOR * (count > 1 ? between(1, count - 1) : 0);
     u8 *either = chance(50) ? df : ef;
@@ -427,15 +427,15 @@ static void damage_table(u32 turn)
     case 2: df[D_EF] = (u8)between(1, 9); break;
     case 3: spoil(df + D_REC, 2, 1, 255); break;
     case 4: spoil(df + D_REF, 2, 1, 255); break;
-    case 5: df[D_STATUS] = (u8)between(2, 255); break;
+    case 5: df[D_STATUS] = (u8)between(2, chance(60) ? 2 : 255); break;
     case 6: ef[D_SFI] = (u8)between(0x1F, 0x21); break;
     case 7: ef[D_FILE] = (u8)(chance(50) ? 0x02 : any_byte()); break;
     case 8: ef[D_EF] = bad_types[below(6)]; break;
-    case 9: ef[D_STATUS] = (u8)between(1, 255); break;
+    case 9: ef[D_STATUS] = (u8)between(1, chance(60) ? 1 : 255); break;
     case 10: memcpy(ef + D_LID, df + DESCRIPTOR * below(count), 2); break;
     case 11: ef[D_SFI] = df[DESCRIPTOR * (chance(50) ? 1 : below(count)) + D_SFI]; break;
     case 12: either[D_AC + i] = any_byte(); break;
-    case 13: either[D_AC + i] = 0x10; either[D_KEY + i] = (u8)(chance(50) ? 0 : between(4, 255)); break;
+    case 13: either[D_AC + i] = 0x10; either[D_KEY + i] = bad_keys[below(4)]; break;
     case 14: either[D_AC + i] = 0x1F; either[D_KEY + i] = (u8)between(1, 3); break;
     case 15: ef[D_REC] = 0; ef[D_NUM] = 0; break;
     case 16: spoil(ef + D_REC, 2, 0, 0); break;
@@ -448,16 +448,19 @@ static void damage_table(u32 turn)
     }
 }
 
-/* The number of a simulated counter's DataRef, from a table that has one. */
-static void damage_reference(void)
+/* The DataRef of a simulated counter, from a table that has one: its number at an edge, or SFI 0 on both sides. */
+static void damage_reference(u32 turn)
 {
     u32 at = find(0x3100), i, j;
     u8 *t = value_of(&items[at]);
-    for (i = 0; i < items[at].length; i += DESCRIPTOR)
-        if (t[i + D_EF] == SIMULATED) {
-            for (j = 0; j < i; j += DESCRIPTOR)
-                if (t[j + D_SFI] == t[i + D_REF] && t[j + D_EF] == COUNTERS)
-                    t[i + D_REF + 1] = (u8)(chance(50) ? 0 : t[j + D_REC] / 3 + 1);
+    for (i = 0; i < items[at].length && t[i + D_EF] != SIMULATED; i += DESCRIPTOR)
+        continue;
+    for (j = 0; i < items[at].length && j < i; j += DESCRIPTOR)
+        if (t[j + D_SFI] == t[i + D_REF] && t[j + D_EF] == COUNTERS) {
+            if (turn % 3 == 0)
+                t[j + D_SFI] = t[i + D_REF] = 0;
+            else
+                t[i + D_REF + 1] = (u8)(turn % 3 == 1 && chance(50) ? 0 : t[j + D_REC] / 3 + 1);
             return;
         }
 }
@@ -465,7 +468,7 @@ static void damage_reference(void)
 static void damage_length(u32 turn)
 {
     static const u16 tags[9] = { 0x2000, 0x2100, 0x2200, 0x3800, 0x4101, 0x4102, 0x4103, 0x4104, 0x3100 };
-    static const u16 table_lengths[5] = { 0, 17, 19, 576, 540 };
+    static const u16 table_lengths[4] = { 576, 0, 17, 559 };
     u16 tag = tags[turn % 9];
     u32 at = find(tag), before = find(tag == 0x2200 ? 0x2100 : 0x4103);
     if (at == item_count && before < item_count && (tag == 0x2200 || tag == 0x4104))
@@ -473,7 +476,7 @@ static void damage_length(u32 turn)
     if (at == item_count)
         return;
     if (tag == 0x3100)
-        resize(at, table_lengths[below(5)]);
+        resize(at, table_lengths[turn / 9 % 4]);
     else if (tag < 0x3000)
         resize(at, chance(50) ? items[at].length + 1 : items[at].length - 1);
     else
@@ -538,11 +541,11 @@ static void damage_records(u32 turn)
     }
 }
 
-static u32 strange_tag(void)
+static u32 strange_tag(u32 turn)
 {
     static const u16 tags[16] = { 0x0000, 0x00FF, 0x1F00, 0x1FFF, 0x2001, 0x2101, 0x2300, 0x3000, 0x3101, 0x3801,
                                   0x4100, 0x4105, 0x8484, 0x9485, 0xFFFF, 0x0100 };
-    return chance(70) ? tags[below(16)] : below(65536);
+    return chance(70) ? tags[turn % 16] : below(65536);
 }
 
 static u32 query_tag(void)
@@ -560,8 +563,8 @@ static void damage_grouping(u32 turn)
     case 0: drop(at); break;
     case 1: insert(at, items[at].tag, value_of(&items[at]), items[at].length); break;
     case 2: spare = items[at]; items[at] = items[other]; items[other] = spare; break;
-    case 3: items[at].tag = (u16)strange_tag(); break;
-    case 4: insert(at, strange_tag(), 0, few); break;
+    case 3: items[at].tag = (u16)strange_tag(turn / 24); break;
+    case 4: insert(at, strange_tag(turn / 24 + 8), 0, few); break;
     case 5: insert(at, query_tag(), 0, other % 5 == 0 ? few : 0); break;
     case 6: case 7: case 8: case 9: damage_length(turn / 24 * 4 + turn % 24 - 6); break;
     case 10: damage_startup(turn / 24); break;
@@ -1002,7 +1005,7 @@ static void session_table(u32 turn)
     u32 files = between(2, chance(30) ? 30 : 8);
     make_order(files, any_total(), 1);
     if (turn % 9 == 8)
-        damage_reference();
+        damage_reference(turn / 9);
     else
         damage_table(turn);
     add_prologue(0);
@@ -1057,13 +1060,13 @@ static u32 open_kind(const struct card *c)
     return c->open_tag == 0 ? 0 : c->open_tag == 0x3100 ? 1 : 2;
 }
 
-/* A random event of the session before which the card is at '07' in '5A' with this open; else the last. */
+/* A random event of the session before which the card is at '07' in '5A' with this open; `events` if none. */
 static u32 place_in_5a(u32 open)
 {
     static u8 scratch[AREA];
     u8 bytes[ANSWER];
     struct card c;
-    u32 e, found = 0, place = events - 1;
+    u32 e, found = 0, place = events;
     (void)fresh(&c, session, CHIP);
     for (e = 0; e < events; e++) {
         struct answer a = { bytes, 0 };
@@ -1078,16 +1081,23 @@ static u32 place_in_5a(u32 open)
 /* An event of each kind in turn put into a load: with nothing, '3100' or an 'ssnn' open. */
 static void session_between(u32 turn)
 {
-    make_order(between(2, 6), ANY_TOTAL, 10);
-    add_prologue(0);
-    set_cutting();
-    close_percent = 5;
-    cut_by_units();
-    if (turn % 9 == 8)
+    u32 tries = 0, place;
+    do {
+        events = 0;
+        make_order(between(2, 6), ANY_TOTAL, 10);
+        add_prologue(0);
+        close_percent = between(2, 20);
+        query_percent = 5;
+        cut_by_units();
+        place = place_in_5a(turn / 10 % 3);
+    } while (place == events && ++tries < 20);
+    if (turn % 10 == 9)
+        add_event(STORE_DATA, chance(50) ? 0x00 : 0x80, 0, 0);
+    else if (turn % 10 == 8)
         add_refused();
     else
-        add_kind(turn % 9 + 1);
-    move_last_to(place_in_5a(turn / 9 % 3));
+        add_kind(turn % 10 + 1);
+    move_last_to(place);
     add_epilogue();
 }
 
@@ -1136,10 +1146,10 @@ static u32 make_session(u32 i)
     if (i % 50 == 17)
         spoil(session + 37, 3, 1, 255);
     if (i % 100 == 27)
-        return below(CHIP);
+        return chance(50) ? CHIP - 1 : below(CHIP);
     if (i % 20 == 15) {
         fill(record_at(events), RECORD);
-        return CHIP + events * RECORD + between(1, RECORD - 1);
+        return CHIP + events * RECORD + between(chance(30) ? RECORD - 1 : 1, RECORD - 1);
     }
     return CHIP + events * RECORD;
 }
@@ -1168,7 +1178,7 @@ static u32 special_job(u32 turn)
     case 1: make_long_order(8193); break;
     case 2: make_long_order(between(8194, 9000)); break;
     case 3: return CHIP;                                    /* an empty order */
-    case 4: return below(CHIP);                             /* no whole chip record */
+    case 4: return chance(50) ? CHIP - 1 : below(CHIP);     /* no whole chip record */
     case 5: make_order(3, ANY_TOTAL, 5); job[37 + below(3)] = 1; break;
     default: make_order(3, ANY_TOTAL, 5); job[36] = (u8)below(6); break;
     }

@@ -904,6 +904,26 @@ static void descriptor_rules(void)
     expect(judge_descriptor(&card, 0, d) == T_DF_STATUS, "DF status 2");
 }
 
+/* A name or a secret is stored with zeros behind it; a descriptor that passes leaves the held bytes zero. */
+static void bytes_past_lengths(void)
+{
+    u8 chip[CHIP], zero[64] = { 0 };
+    make_chip(chip, 20);
+    fresh(&card, chip, CHIP);
+    memset(card.name, 0x99, 16);
+    memset(card.secrets[0].bytes, 0x99, 64);
+    memset(card.held, 0x99, 18);
+    send(INSTALL, 0x0C, LOAD_INSTALL);
+    expect(memcmp(card.name + 5, zero, 11) == 0, "a name with zeros behind it");
+    send(SELECT, 0, NAME);
+    store(0x01, "948400");
+    store(0x00, G2000 G2100 "3100 24 " DF);
+    expect(card.open_count == 0 && memcmp(card.held, zero, 18) == 0, "held bytes zero after a descriptor");
+    store(0x00, LINEAR_29_3 G3800);
+    expect(card.secrets[0].length == 2 && memcmp(card.secrets[0].bytes + 2, zero, 62) == 0, "a secret likewise");
+    expect(card.last_tag == 0, "3100 is no last ssnn");
+}
+
 static void reader_endings(void)
 {
     u8 order[64];
@@ -960,6 +980,7 @@ int selftest(void)
     rules_c_to_g();
     spanned_values();
     descriptor_rules();
+    bytes_past_lengths();
     reader_endings();
     if (failures != 0) {
         printf("second: %u of %u tests failed\n", failures, tests);

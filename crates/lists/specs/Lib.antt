@@ -2,3 +2,4 @@
 pub mod Bytes
 pub mod Over
 pub mod Choice
+pub mod Rest

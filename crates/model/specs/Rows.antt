@@ -47,9 +47,12 @@ rowTable =
     ∷ recordRow
     ∷ []
 
--- row r of the table, from 1
+-- row r of the table, from 1; past the table there is none
+abbrev pub noRow : Row
+noRow = record { first = 0; last = 0; mandatory = false; spans = false; least = 0; most = 0; step = 0 }
+
 unfoldable pub rowAt : ℕ → Row
-rowAt r = getD rowTable (r - 1) recordRow
+rowAt r = getD rowTable (r - 1) noRow
 
 abbrev pub inRow : ℕ → Row → Bool
 inRow tag x = leb (x .first) tag && leb tag (x .last)

@@ -1,0 +1,31 @@
+-- The byte-wise walk over two lists end to end is the walk over the second after that over the first.
+use Prim.Native.Nat.{ℕ, zero, suc}
+use mathlib.Core.Path.{_≡_, refl, sym, ap, _∙_}
+use mathlib.Core.List.{List, [], _∷_, _++_}
+use Rattle.model.specs.Loads.{State}
+use Rattle.model.specs.Rules.{Result, went, asked, failed, Rule, thence}
+use Rattle.cutting.specs.Bytewise.{Part, between, head, value, step, run}
+
+pub thence-assoc : {A B C : Type 0} (r : Result A) (f : A → Rule B) (g : B → Rule C) → thence (thence r f) g ≡ thence r (λ a s. thence (f a s) g)
+thence-assoc (went a s) f g = refl
+thence-assoc (asked t s) f g = refl
+thence-assoc (failed w s) f g = refl
+
+pub thence-same : {A B : Type 0} (r : Result A) (f g : A → Rule B) → ((a : A) (s : State) → f a s ≡ g a s) → thence r f ≡ thence r g
+thence-same (went a s) f g h = h a s
+thence-same (asked t s) f g h = refl
+thence-same (failed w s) f g h = refl
+
+pub run-append : (capacity : ℕ) (xs ys : List ℕ) (p : Part) (s : State)
+    → run capacity (xs ++ ys) p s ≡ thence (run capacity xs p s) (λ p′. run capacity ys p′)
+unfolding run
+run-append capacity [] ys p s = refl
+run-append capacity (x ∷ xs) ys p s =
+    thence-same (step capacity p x s) (λ p′. run capacity (xs ++ ys) p′) (λ p′ s′. thence (run capacity xs p′ s′) (λ p″. run capacity ys p″)) (λ p′ s′. run-append capacity xs ys p′ s′)
+    ∙ sym (thence-assoc (step capacity p x s) (λ p′. run capacity xs p′) (λ p′. run capacity ys p′))
+
+-- bytes that pass, and then others
+pub run-after : (capacity : ℕ) (xs ys : List ℕ) (p p₁ : Part) (s s₁ : State)
+    → run capacity xs p s ≡ went p₁ s₁ → run capacity (xs ++ ys) p s ≡ run capacity ys p₁ s₁
+run-after capacity xs ys p p₁ s s₁ e =
+    run-append capacity xs ys p s ∙ ap (λ (r : Result Part). thence r (λ p′. run capacity ys p′)) e

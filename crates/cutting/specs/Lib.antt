@@ -1,0 +1,4 @@
+-- The working walk of a command, byte by byte; what a cut is; the job that the writer's records are for.
+pub mod Bytewise
+pub mod Packs
+pub mod Job

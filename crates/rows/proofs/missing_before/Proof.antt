@@ -1,0 +1,56 @@
+use Prim.Native.Nat.{ℕ, suc, _+_, _*_, _-_, _≤_, _<_, _/_, _%_}
+use mathlib.Core.Path.{_≡_, refl, ap, sym, _∙_}
+use mathlib.Core.List.{List, [], _∷_, _++_}
+use native.Mathlib.Omega.{arith}
+use native.Mathlib.Numerals.{add-one}
+use lib.ListN.{length, take, drop, set, getD, length-set, length-take, length-drop, length-append}
+use denote.Ref.{now}
+use borrow.Author.Needs.{needs}
+use Rattle.rows.proofs.Missing.{missing-step, missing-end}
+use Rattle.model.specs.Rows.{rowTable, missingFrom}
+use Rattle.rows.proofs.missing_before.Statement.{statement}
+use Rattle.rows.proofs.missing_before.Tie as tie
+use Rattle.rows.proofs.missing_before.Reads as reads
+use Rattle.rows.proofs.missing_before.Lts as lts
+use Rattle.rows.proofs.lacks.Reads as lacks-reads
+
+abbrev Inv-loop : tie.InvT-loop
+Inv-loop rows n k₀ k = (k ≤ n) × (missingFrom rows 1 (take n rowTable) ≡ missingFrom rows (k + 1) (drop k (take n rowTable)))
+
+abbrev μ-loop : tie.MeasureT-loop
+μ-loop rows n k₀ k = n - k
+
+loop-holds : tie.Need-loop-holds Inv-loop μ-loop
+loop-holds c = search needs
+
+lacks-requires : tie.Need-lacks-requires Inv-loop μ-loop
+lacks-requires c κs = search needs
+
+returns : tie.Need-returns Inv-loop μ-loop
+returns c = ?
+
+add-k : tie.Need-add-k Inv-loop μ-loop
+add-k c = search needs
+
+loop-less : tie.Need-loop-less Inv-loop μ-loop
+loop-less c = search needs
+
+loop-again : tie.Need-loop-again Inv-loop μ-loop
+loop-again c = ?
+
+returns-2 : tie.Need-returns-2 Inv-loop μ-loop
+returns-2 c = ?
+
+pub missing-before-spec : {M : Type 1} → statement M
+missing-before-spec =
+    tie.close
+    (tie.spec
+    Inv-loop
+    μ-loop
+    loop-holds
+    lacks-requires
+    returns
+    add-k
+    loop-less
+    loop-again
+    returns-2)

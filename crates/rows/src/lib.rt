@@ -1,0 +1,254 @@
+// The eleven-row table as constants, and the order in which rows may come.
+use model::Row;
+use model::Verdict;
+ghost use mathlib.Core.Path.{_≡_};
+ghost use Prim.Native.Nat.{_+_, _-_, _≤_, _<_};
+ghost use lib.ListN.{take};
+ghost use Rattle.model.specs.Rows.{rowAt, rowOf, inRow, rowTable, taken, withRow, missingFrom, mandatoryMissing, noneFrom, rising, due, takenOf};
+ghost use Rattle.model.specs.Rules.{dueRow};
+ghost use Rattle.rows.specs.Lacking.{lacking};
+
+const ROW_COUNT: usize = 11;
+
+const RECORD_ROW: usize = 11;
+
+const LONGEST: usize = 0xFFFE;
+
+const SECRET_ROOM: usize = 64;
+
+const DESCRIPTOR_SIZE: usize = 18;
+
+const TABLE_ROOM: usize = 558;
+
+const ROWS: [Row; 11] = [
+    Row {
+        first: 0x9484,
+        last: 0x9484,
+        mandatory: true,
+        spans: false,
+        least: 0,
+        most: 0,
+        step: 1,
+    },
+    Row {
+        first: 0x2000,
+        last: 0x2000,
+        mandatory: true,
+        spans: false,
+        least: 8,
+        most: 8,
+        step: 1,
+    },
+    Row {
+        first: 0x2100,
+        last: 0x2100,
+        mandatory: true,
+        spans: false,
+        least: 7,
+        most: 7,
+        step: 1,
+    },
+    Row {
+        first: 0x2200,
+        last: 0x2200,
+        mandatory: false,
+        spans: false,
+        least: 3,
+        most: 3,
+        step: 1,
+    },
+    Row {
+        first: 0x3100,
+        last: 0x3100,
+        mandatory: true,
+        spans: true,
+        least: DESCRIPTOR_SIZE,
+        most: TABLE_ROOM,
+        step: DESCRIPTOR_SIZE,
+    },
+    Row {
+        first: 0x3800,
+        last: 0x3800,
+        mandatory: true,
+        spans: false,
+        least: 1,
+        most: SECRET_ROOM,
+        step: 1,
+    },
+    Row {
+        first: 0x4101,
+        last: 0x4101,
+        mandatory: true,
+        spans: false,
+        least: 1,
+        most: SECRET_ROOM,
+        step: 1,
+    },
+    Row {
+        first: 0x4102,
+        last: 0x4102,
+        mandatory: true,
+        spans: false,
+        least: 1,
+        most: SECRET_ROOM,
+        step: 1,
+    },
+    Row {
+        first: 0x4103,
+        last: 0x4103,
+        mandatory: true,
+        spans: false,
+        least: 1,
+        most: SECRET_ROOM,
+        step: 1,
+    },
+    Row {
+        first: 0x4104,
+        last: 0x4104,
+        mandatory: false,
+        spans: false,
+        least: 1,
+        most: SECRET_ROOM,
+        step: 1,
+    },
+    Row {
+        first: 0x0100,
+        last: 0x1EFF,
+        mandatory: false,
+        spans: true,
+        least: 0,
+        most: LONGEST,
+        step: 1,
+    },
+];
+
+// A row's constants.
+pub fn row_at(r: usize) -> Row
+    requires { ⌜ (1 ≤ r) × (r ≤ 11) ⌝ }
+    ensures { λ x. ⌜ x ≡ rowAt r ⌝ }
+{
+    ROWS[r - 1]
+}
+
+fn has_tag(row: Row, tag: u16) -> bool
+    ensures { λ x. ⌜ x ≡ inRow tag row ⌝ }
+{
+    if row.first <= tag {
+        return tag <= row.last;
+    }
+    false
+}
+
+// The row of a tag; 0: unknown.
+pub fn row_of(tag: u16) -> usize
+    ensures { λ r. ⌜ (r ≡ rowOf tag) × (r ≤ 11) ⌝ }
+{
+    let mut i: usize = 0;
+    while i < ROW_COUNT {
+        let row = ROWS[i];
+        if has_tag(row, tag) {
+            return i + 1;
+        }
+        i += 1;
+    }
+    0
+}
+
+// Whether a row is in the set.
+pub fn is_taken(rows: u16, r: usize) -> bool
+    requires { ⌜ (1 ≤ r) × (r ≤ 11) ⌝ }
+    ensures { λ x. ⌜ x ≡ taken rows r ⌝ }
+{
+    (rows >> (r - 1)) % 2 == 1
+}
+
+// The set with a row.
+pub fn with_row(rows: u16, r: usize) -> u16
+    requires { ⌜ (1 ≤ r) × (r ≤ 11) ⌝ }
+    ensures { λ x. ⌜ x ≡ withRow rows r ⌝ }
+{
+    if is_taken(rows, r) {
+        return rows;
+    }
+    rows + (1u16 << (r - 1))
+}
+
+// Row k + 1 is mandatory and not taken.
+fn lacks(rows: u16, k: usize) -> bool
+    requires { ⌜ k < 11 ⌝ }
+    ensures { λ x. ⌜ x ≡ lacking rows k ⌝ }
+{
+    let row = ROWS[k];
+    if row.mandatory {
+        if is_taken(rows, k + 1) {
+            return false;
+        }
+        return true;
+    }
+    false
+}
+
+// A mandatory row among the first n is missing.
+pub fn missing_before(rows: u16, n: usize) -> bool
+    requires { ⌜ n ≤ 11 ⌝ }
+    ensures { λ x. ⌜ x ≡ missingFrom rows 1 (take n rowTable) ⌝ }
+{
+    let mut k: usize = 0;
+    while k < n {
+        if lacks(rows, k) {
+            return true;
+        }
+        k += 1;
+    }
+    false
+}
+
+pub fn mandatory_missing(rows: u16) -> bool
+    ensures { λ x. ⌜ x ≡ mandatoryMissing rows ⌝ }
+{
+    missing_before(rows, ROW_COUNT)
+}
+
+fn is_rising(rows: u16, last: u16, tag: u16) -> bool
+    ensures { λ x. ⌜ x ≡ rising rows last tag ⌝ }
+{
+    if is_taken(rows, RECORD_ROW) {
+        return last < tag;
+    }
+    true
+}
+
+// A row may come, with this tag.
+pub fn is_due(rows: u16, last: u16, r: usize, tag: u16) -> bool
+    requires { ⌜ (1 ≤ r) × (r ≤ 11) ⌝ }
+    ensures { λ x. ⌜ x ≡ due rows last r tag ⌝ }
+{
+    if missing_before(rows, r - 1) {
+        return false;
+    }
+    if r == RECORD_ROW {
+        return is_rising(rows, last, tag);
+    }
+    rows >> (r - 1) == 0
+}
+
+// Rule d: the row of a tag that may come now.
+pub fn due_row(rows: u16, last: u16, tag: u16) -> Verdict
+    ensures { λ v. ⌜ v ≡ dueRow rows last tag ⌝ }
+{
+    let r = row_of(tag);
+    if r == 0 {
+        return Verdict::Refuses(0x6A88);
+    }
+    if is_due(rows, last, r, tag) {
+        return Verdict::Passes(r);
+    }
+    Verdict::Refuses(0x6985)
+}
+
+// How many rows have been taken, counted from the set itself.
+pub fn count(rows: u16) -> u32
+    ensures { λ n. ⌜ n ≡ takenOf rows ⌝ }
+{
+    u16::count_ones(rows)
+}

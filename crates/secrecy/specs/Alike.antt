@@ -1,0 +1,48 @@
+-- Two cards, events and sessions that are alike in all but the hidden bytes of the kept secrets.
+use Prim.Native.Nat.{ℕ, zero, suc}
+use mathlib.Core.Path.{_≡_}
+use mathlib.Core.Bool.{Bool, true, false}
+use mathlib.Core.List.{List, [], _∷_}
+use lib.ListN.{length, getD}
+use Rattle.lists.specs.Bytes.{byteAt}
+use Rattle.model.specs.declared.Secret.{Secret}
+use Rattle.model.specs.declared.Card.{Card}
+use Rattle.model.specs.Stored.{noSecret}
+use Rattle.model.specs.Session.{Turn, refusedBy, turnOf}
+use Rattle.secrecy.specs.View.{Hiding}
+
+abbrev pub secretOf : Card → ℕ → Secret
+secretOf c k = getD (c .loading .secrets) k noSecret
+
+-- equal in everything but the secrets' hidden bytes; the secrets are as many, and each is as long
+pub record AlikeCards (z : Hiding) (c d : Card) : Type 0 where
+  pub chip : c .chip ≡ d .chip
+  pub life : c .life ≡ d .life
+  pub internal : c .loading .internal ≡ d .loading .internal
+  pub rows : c .loading .rows ≡ d .loading .rows
+  pub last : c .loading .last ≡ d .loading .last
+  pub pending : c .loading .pending ≡ d .loading .pending
+  pub held : c .loading .held ≡ d .loading .held
+  pub files : c .loading .files ≡ d .loading .files
+  pub count : c .loading .count ≡ d .loading .count
+  pub serial : c .loading .serial ≡ d .loading .serial
+  pub startup : c .loading .startup ≡ d .loading .startup
+  pub counter : c .loading .counter ≡ d .loading .counter
+  pub secrets : length (c .loading .secrets) ≡ length (d .loading .secrets)
+  pub lengths : (k : ℕ) → secretOf c k .len ≡ secretOf d k .len
+  pub rooms : (k : ℕ) → length (secretOf c k .bytes) ≡ length (secretOf d k .bytes)
+  pub bytes : (k j : ℕ) → z k j ≡ false → byteAt (secretOf c k .bytes) j ≡ byteAt (secretOf d k .bytes) j
+
+-- one event of each: the number, the word, the answer, each file byte, and the card
+pub record AlikeTurns (z : Hiding) (t u : Turn) : Type 0 where
+  pub number : t .number ≡ u .number
+  pub word : t .word ≡ u .word
+  pub answer : t .answer ≡ u .answer
+  pub area : t .area ≡ u .area
+  pub card : AlikeCards z (t .card) (u .card)
+
+-- what event k of a session comes to, from 0; past the last, nothing
+unfoldable pub turnAt : Card → List ℕ → List (List ℕ) → ℕ → Turn
+turnAt c a [] k = refusedBy 0 c a
+turnAt c a (r ∷ rs) zero = turnOf c a r
+turnAt c a (r ∷ rs) (suc k) = let t = turnOf c a r in turnAt (t .card) (t .area) rs k

@@ -1,0 +1,66 @@
+use Prim.Native.Nat.{ℕ, suc, _+_, _*_, _-_, _≤_, _<_, _/_, _%_}
+use mathlib.Core.Path.{_≡_, refl, ap, sym, _∙_}
+use mathlib.Core.List.{List, [], _∷_, _++_}
+use native.Mathlib.Omega.{arith}
+use native.Mathlib.Numerals.{add-one}
+use lib.ListN.{length, take, drop, set, getD, length-set, length-take, length-drop, length-append}
+use Rattle.lists.specs.Over.{overwrite, over-more0, over-none, length-over}
+use lib.Seq.{take-all}
+use denote.Ref.{now}
+use borrow.Author.Needs.{needs}
+use Rattle.slices.proofs.lay.Statement.{statement}
+use Rattle.slices.proofs.lay.Tie as tie
+
+abbrev Inv-loop : tie.InvT-loop
+Inv-loop dst₀ src i₀ dst i = (i ≤ length src) × (dst ≡ overwrite dst₀ 0 (take i src))
+
+abbrev μ-loop : tie.MeasureT-loop
+μ-loop dst₀ src i₀ dst i = length src - i
+
+loop-holds : tie.Need-loop-holds Inv-loop μ-loop
+loop-holds c = (search needs, sym (over-none _ 0))
+
+shared-slice-read-dst : tie.Need-shared-slice-read-dst Inv-loop μ-loop
+shared-slice-read-dst c = search needs
+
+slice-write-dst : tie.Need-slice-write-dst Inv-loop μ-loop
+slice-write-dst c =
+    let a = c .before .before .before .args in
+    let l = c .before .before .loop in
+    rw (l .inv .1, length-over) (omega arith)
+
+add-i : tie.Need-add-i Inv-loop μ-loop
+add-i c = search needs
+
+loop-less : tie.Need-loop-less Inv-loop μ-loop
+loop-less c = search needs
+
+loop-again : tie.Need-loop-again Inv-loop μ-loop
+loop-again c =
+    let l = c .before .before .loop in
+    let a = c .before .before .before .args in
+    (search needs, rw (l .inv .1) (over-more0 (now (a .src)) (now (a .dst)) (l .i) (search needs)))
+
+same-length : tie.Need-same-length Inv-loop μ-loop
+same-length c = rw (c .before .loop .inv .1, length-over)
+
+returns : tie.Need-returns Inv-loop μ-loop
+returns c =
+    let l = c .before .loop in
+    let a = c .before .before .args in
+    rw (l .inv .1, take-all (l .i) (now (a .src)) (c .loop-test .left))
+
+pub lay-spec : {M : Type 1} → statement M
+lay-spec =
+    tie.close
+    (tie.spec
+    Inv-loop
+    μ-loop
+    loop-holds
+    shared-slice-read-dst
+    slice-write-dst
+    add-i
+    loop-less
+    loop-again
+    same-length
+    returns)

@@ -1,0 +1,36 @@
+use Prim.Native.Nat.{ℕ, suc, _+_, _*_, _-_, _≤_, _<_, _/_, _%_}
+use mathlib.Core.Path.{_≡_, refl, ap, sym, _∙_}
+use mathlib.Core.List.{List, [], _∷_, _++_}
+use native.Mathlib.Omega.{arith}
+use native.Mathlib.Numerals.{add-one}
+use lib.ListN.{length, take, drop, set, getD, length-set, length-take, length-drop, length-append}
+use Rattle.lists.specs.Over.{overwrite, over-mid}
+use denote.Ref.{now}
+use borrow.Author.Needs.{needs}
+use Rattle.slices.proofs.put_bytes.Statement.{statement}
+use Rattle.slices.proofs.put_bytes.Tie as tie
+
+sub-lay : tie.Need-sub-lay
+sub-lay c = search needs
+
+part-lay-start : tie.Need-part-lay-start
+part-lay-start c = search needs
+
+part-lay-end : tie.Need-part-lay-end
+part-lay-end c = search needs
+
+lay-requires : tie.Need-lay-requires
+lay-requires c κs = search needs
+
+same-length : tie.Need-same-length
+same-length c = search needs
+
+returns : tie.Need-returns
+returns c =
+    let a = c .before .before .before .before .before .before .args in
+    rw (c .before .before .lay .ensures)
+    (over-mid (now (a .dst)) (now (a .src)) (a .at) (length (now (a .dst)) - a .at) (omega arith) (omega arith))
+
+pub put-bytes-spec : {M : Type 1} → statement M
+put-bytes-spec =
+    tie.close (tie.spec sub-lay part-lay-start part-lay-end lay-requires same-length returns)

@@ -1,0 +1,53 @@
+-- What soundness says of an open value: what the code must know where it takes the value's bytes.
+use Prim.Native.Nat.{ℕ, _+_, _*_, _%_, _≤_, _<_}
+use mathlib.Core.Path.{_≡_, refl, subst}
+use mathlib.Core.Bool.{Bool, true, false, not, _&&_, _||_, false≢true}
+use lib.Dec.{eqb, ltb, leb}
+use lib.ListN.{take}
+use native.Mathlib.Omega.{arith}
+use native.Mathlib.Nat.{le-trans}
+use borrow.Author.Tests.{leb-true, ltb-true, eqb-true, not-true}
+use Rattle.model.specs.declared.Open.{Open}
+use Rattle.model.specs.declared.Open.the-variants.{Shut, Table, Record}
+use Rattle.model.specs.declared.Loading.{Loading}
+use Rattle.model.specs.declared.Spot.{Spot}
+use Rattle.model.specs.declared.Spot.the-variants.{Nowhere, At}
+use Rattle.model.specs.Stored.{areaSize}
+use Rattle.model.specs.Rows.{taken, descriptorSize, tableRoom}
+use Rattle.model.specs.Table.{tablePasses, total}
+use Rattle.model.specs.Loads.{fileList}
+use Rattle.model.specs.Rules.{tagSpot}
+use Rattle.model.specs.Sound.{tableFits, recordFits, pendingFits}
+use Rattle.soundness.specs.Opened.{TableOpen, RecordOpen}
+use Rattle.soundness.proofs.Tests.{and-l, and-r}
+use Rattle.soundness.proofs.Within.{spot-within, total-passes}
+
+table-fits : (l : Loading) (held missing : ℕ) → pendingFits (Table held missing) l ≡ true → TableOpen l held missing
+table-fits l held missing e =
+    let n = l .count * descriptorSize + held + missing in
+    record {
+      untaken = not-true (taken (l .rows) 5) (search (and-l, and-r));
+      fits = leb-true n tableRoom (search (and-l, and-r));
+      whole = eqb-true (n % descriptorSize) 0 (search (and-l, and-r));
+      part = ltb-true held descriptorSize (search (and-l, and-r));
+    }
+
+pub table-opened : (l : Loading) (held missing : ℕ) → l .pending ≡ Table held missing → pendingFits (l .pending) l ≡ true → TableOpen l held missing
+table-opened l held missing e h = table-fits l held missing (subst (λ (o : Open). pendingFits o l ≡ true) e h)
+
+record-fits : (l : Loading) (tag written missing : ℕ) (x : Spot) → tagSpot (fileList l) tag ≡ x → recordFits x written missing ≡ true
+    → total (fileList l) ≤ areaSize → RecordOpen l tag written missing
+record-fits l tag written missing Nowhere e h t = absurd (false≢true h)
+record-fits l tag written missing (At base size) e h t = record {
+  base = base;
+  size = size;
+  place = e;
+  fits = leb-true (written + missing) size h;
+  within = le-trans (spot-within (fileList l) _ _ base size e) t;
+}
+
+pub record-opened : (l : Loading) (tag written missing : ℕ) → l .pending ≡ Record tag written missing → pendingFits (l .pending) l ≡ true
+    → tablePasses (l .files) (l .count) ≡ true → RecordOpen l tag written missing
+record-opened l tag written missing e h p =
+    record-fits l tag written missing (tagSpot (fileList l) tag) refl (subst (λ (o : Open). pendingFits o l ≡ true) e h)
+    (total-passes (l .files) (l .count) p)

@@ -1,0 +1,33 @@
+-- What tests joined by "and" and "or" say.
+use mathlib.Core.Path.{_≡_, refl}
+use mathlib.Core.Bool.{Bool, true, false, cond, not, _&&_, _||_}
+
+pub and-l : (a b : Bool) → (a && b) ≡ true → a ≡ true
+and-l true b e = refl
+and-l false b e = e
+
+pub and-r : (a b : Bool) → (a && b) ≡ true → b ≡ true
+and-r true b e = e
+and-r false b e = cc
+
+pub and-i : (a b : Bool) → a ≡ true → b ≡ true → (a && b) ≡ true
+and-i true b p q = q
+and-i false b p q = p
+
+pub or-l : (a b : Bool) → a ≡ true → (a || b) ≡ true
+or-l true b e = refl
+or-l false b e = cc
+
+pub or-r : (a b : Bool) → b ≡ true → (a || b) ≡ true
+or-r true b e = refl
+or-r false b e = e
+
+-- an "or" whose second test fails
+pub or-left : (a b : Bool) → (a || b) ≡ true → b ≡ false → a ≡ true
+or-left true b e n = refl
+or-left false b e n = cc
+
+-- an "or" whose first test fails
+pub or-right : (a b : Bool) → (a || b) ≡ true → a ≡ false → b ≡ true
+or-right true b e n = cc
+or-right false b e n = e
