@@ -131,13 +131,13 @@ laid-more Nowhere written b v area = refl
 laid-more (At base size) written b v area = over-then (b ∷ []) v area (base + written) (base + (written + 1)) (omega arith)
 
 -- what was open before does not matter to what a record's bytes leave open
-done-over : (tag x n : ℕ) (o : Open) (l : Loading) (area : List ℕ)
+pub done-over : (tag x n : ℕ) (o : Open) (l : Loading) (area : List ℕ)
     → recordDone tag x n (record { load = withOpen o (l .held) l; area = area }) ≡ recordDone tag x n (record { load = l; area = area })
 unfolding recordDone
 done-over tag x zero o l area = refl
 done-over tag x (suc n) o l area = refl
 
-done-same : (tag x y m n : ℕ) (l : Loading) (a c : List ℕ) → x ≡ y → m ≡ n → a ≡ c
+pub done-same : (tag x y m n : ℕ) (l : Loading) (a c : List ℕ) → x ≡ y → m ≡ n → a ≡ c
     → recordDone tag x m (record { load = l; area = a }) ≡ recordDone tag y n (record { load = l; area = c })
 done-same tag x y m n l a c e f g = cc
 
@@ -146,7 +146,7 @@ record-more : (tag written n b : ℕ) (v : List ℕ) (s : State)
 unfolding recordBytes recordDone
 record-more tag written n b v s =
     done-same tag (written + suc (length v)) (written + 1 + length v) (suc (suc n) - suc (length v)) (suc n - length v) (s .load) _ _ (omega arith) (suc-sub-suc (suc n) (length v))
-        (laid-more (tagSpot (fileList (s .load)) tag) written b v (s .area))
+    (laid-more (tagSpot (fileList (s .load)) tag) written b v (s .area))
     ∙ sym (done-over tag (written + 1 + length v) (suc n - length v) (Record tag (written + 1) (suc n)) (s .load) _)
 
 fed-record : (tag written n b : ℕ) (bs : List ℕ) (s : State) → went (drop n bs) (recordBytes tag written (suc n) (b ∷ take n bs) s) ≡ fed bs (recordBytes tag written (suc n) (b ∷ []) s)
@@ -168,7 +168,7 @@ pub fed-step : (capacity b n : ℕ) (bs : List ℕ) (s : State) → Misses (s .l
 unfolding fed step
 fed-step capacity b n bs s m = fed-open (s .load .pending) b n bs s refl m
 
-laid-none : (x : Spot) (written : ℕ) (area : List ℕ) → laid x written [] area ≡ area
+pub laid-none : (x : Spot) (written : ℕ) (area : List ℕ) → laid x written [] area ≡ area
 laid-none Nowhere written area = refl
 laid-none (At base size) written area = over-none area (base + written)
 
@@ -194,7 +194,7 @@ pub record Agrees {B : Type 0} (capacity bound : ℕ) (k : Rule B) (K : List ℕ
   pub some : (left : List ℕ) (s : State) → length left < bound → s .load .pending ≡ Shut → K left s ≡ thence (run capacity left between s) (atEnd k)
 
 module _ {B : Type 0} (capacity bound : ℕ) (k : Rule B) (K : List ℕ → Rule B) (agrees : Agrees capacity bound k K) where
-  fed-then : (n : ℕ) (bs : List ℕ) → ((s : State) → Misses (s .load .pending) n → thence (fed bs s) K ≡ thence (run capacity bs between s) (atEnd k))
+  pub fed-then : (n : ℕ) (bs : List ℕ) → ((s : State) → Misses (s .load .pending) n → thence (fed bs s) K ≡ thence (run capacity bs between s) (atEnd k))
       → (r : Result Part) → Rests (λ s′. Misses (s′ .load .pending) n) r
       → thence (thence r (λ p. fed bs)) K ≡ thence (thence r (λ p. run capacity bs p)) (atEnd k)
   fed-then n bs ih (went p s) h = rw (h .0) (ih s (h .1))

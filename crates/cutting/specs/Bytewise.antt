@@ -82,3 +82,13 @@ abbrev pub atEnd : {B : Type 0} → Rule B → Part → Rule B
 atEnd k between s = k s
 atEnd k (head bs) s = failed 0x6A80 s
 atEnd k (value row n bs) s = failed 0x6A80 s
+
+-- a command asks something (rule b at data byte 0): nothing is open, and its first header has a query's tag
+abbrev pub headAsks : Header → Bool
+headAsks Torn = false
+headAsks (Whole h) = isQuery (h .tag)
+
+abbrev pub asks : Open → List ℕ → Bool
+asks Shut bytes = headAsks (headerOf bytes)
+asks (Table held missing) bytes = false
+asks (Record tag written missing) bytes = false

@@ -1,1 +1,11 @@
 pub mod Marks
+pub mod Veils
+pub mod Rules
+pub mod Steps
+pub mod Heads
+pub mod Grouping
+pub mod Commands
+pub mod Events
+pub mod Turns
+pub mod Cards
+pub mod Sessions

@@ -1,13 +1,19 @@
 -- Laws of the view: its length, and that it is made part by part.
 use Prim.Native.Nat.{ℕ, zero, suc, _+_, _-_, _≤_, _<_}
 use mathlib.Core.Path.{_≡_, refl, ap, ap₂, sym, _∙_}
-use mathlib.Core.Bool.{Bool, true, false, cond, _&&_}
+use mathlib.Core.Bool.{Bool, true, false, cond, _&&_, and-eq-true-iff}
 use mathlib.Core.List.{List, [], _∷_, _++_}
+use native.Mathlib.Nat.{add-zero, add-suc, suc-add}
 use lib.Dec.{eqb}
 use lib.ListN.{length, getD, take, drop, replicate}
+use borrow.Author.Tests.{eqb-true}
 use Rattle.lists.specs.Bytes.{byteAt, zeros, allZero}
 use Rattle.secrecy.specs.View.{Mark, seen, secret, seens, secretMarks, Hiding, shownAs, view}
 use Rattle.secrecy.specs.Veil.{blotted}
+
+hidden-zero : (hides : Bool) → _≡_ {A = ℕ} (cond hides 0 0) 0
+hidden-zero true = refl
+hidden-zero false = refl
 
 module _ (z : Hiding) where
   pub view-nil : (ms : List Mark) → view z ms [] ≡ []
@@ -66,17 +72,38 @@ module _ (z : Hiding) where
   drop-view (suc n) (m ∷ ms) [] = sym (view-nil (drop n ms))
   drop-view (suc n) (m ∷ ms) (b ∷ bs) = drop-view n ms bs
 
-  -- zeros look the same
-  cond-zero : (b : Bool) → cond b 0 0 ≡ 0
-  cond-zero true = refl
-  cond-zero false = refl
-
-  shown-zero : (m : Mark) → shownAs z m 0 ≡ 0
+  -- bytes that are all zero look the same
+  shown-zero : (m : Mark) → _≡_ {A = ℕ} (shownAs z m 0) 0
   shown-zero seen = refl
-  shown-zero (secret k j) = cond-zero (z k j)
+  shown-zero (secret k j) = hidden-zero (z k j)
 
-  pub view-zeros : (ms : List Mark) (n : ℕ) → view z ms (zeros n) ≡ zeros n
-  unfolding view
-  view-zeros [] n = refl
-  view-zeros (m ∷ ms) zero = refl
-  view-zeros (m ∷ ms) (suc n) = ap₂ {C = List ℕ} (λ b l. b ∷ l) (shown-zero m) (view-zeros ms n)
+  pub view-zero : (ms : List Mark) (bs : List ℕ) → allZero bs ≡ true → view z ms bs ≡ bs
+  unfolding view allZero
+  view-zero [] bs e = refl
+  view-zero (m ∷ ms) [] e = refl
+  view-zero (m ∷ ms) (b ∷ bs) e =
+      let both = and-eq-true-iff (eqb b 0) (allZero bs) .0 e in
+      let b-zero = eqb-true b 0 (both .0) in
+      ap₂ {C = List ℕ} (λ x l. x ∷ l) (rw b-zero (shown-zero m)) (view-zero ms bs (both .1))
+
+-- a secret's bytes with zeros behind them
+pub length-blotted : (hides : ℕ → Bool) (j : ℕ) (bs : List ℕ) → length (blotted hides j bs) ≡ length bs
+unfolding blotted
+length-blotted hides j [] = refl
+length-blotted hides j (b ∷ bs) = ap suc (length-blotted hides (suc j) bs)
+
+pub blotted-zeros : (hides : ℕ → Bool) (j n : ℕ) → blotted hides j (zeros n) ≡ zeros n
+unfolding blotted
+blotted-zeros hides j zero = refl
+blotted-zeros hides j (suc n) = ap₂ {C = List ℕ} (λ x l. x ∷ l) (hidden-zero (hides j)) (blotted-zeros hides (suc j) n)
+
+pub blotted-append : (hides : ℕ → Bool) (j n : ℕ) (bs : List ℕ) → blotted hides j (bs ++ zeros n) ≡ blotted hides j bs ++ zeros n
+unfolding blotted
+blotted-append hides j n [] = blotted-zeros hides j n
+blotted-append hides j n (b ∷ bs) = ap (λ (l : List ℕ). cond (hides j) 0 b ∷ l) (blotted-append hides (suc j) n bs)
+
+pub byte-blotted : (hides : ℕ → Bool) (j i : ℕ) (bs : List ℕ) → hides (j + i) ≡ false → byteAt (blotted hides j bs) i ≡ byteAt bs i
+unfolding blotted
+byte-blotted hides j i [] e = refl
+byte-blotted hides j zero (b ∷ bs) e = rw (rw add-zero at e)
+byte-blotted hides j (suc i) (b ∷ bs) e = byte-blotted hides (suc j) i bs (rw (add-suc, ← suc-add) at e)

@@ -8,7 +8,7 @@ use Rattle.lists.specs.Bytes.{byteAt}
 use Rattle.model.specs.declared.Secret.{Secret}
 use Rattle.model.specs.declared.Card.{Card}
 use Rattle.model.specs.Stored.{noSecret}
-use Rattle.model.specs.Session.{Turn, refusedBy, turnOf}
+use Rattle.model.specs.Session.{Turn, refusedBy, turnOf, Run}
 use Rattle.secrecy.specs.View.{Hiding}
 
 abbrev pub secretOf : Card → ℕ → Secret
@@ -46,3 +46,12 @@ unfoldable pub turnAt : Card → List ℕ → List (List ℕ) → ℕ → Turn
 turnAt c a [] k = refusedBy 0 c a
 turnAt c a (r ∷ rs) zero = turnOf c a r
 turnAt c a (r ∷ rs) (suc k) = let t = turnOf c a r in turnAt (t .card) (t .area) rs k
+
+-- the two sessions so far: the words, each file byte, and the card
+pub record AlikeRuns (z : Hiding) (w u : Run) : Type 0 where
+  pub words : w .words ≡ u .words
+  pub area : w .area ≡ u .area
+  pub card : AlikeCards z (w .card) (u .card)
+
+abbrev pub start : Card → List ℕ → Run
+start c a = record { words = []; card = c; area = a }

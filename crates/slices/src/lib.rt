@@ -1,8 +1,9 @@
 // Lent memory: bytes read, compared, laid over others, and copied into arrays.
 ghost use mathlib.Core.Path.{_≡_};
+ghost use mathlib.Core.List.{_∷_, []};
 ghost use Prim.Native.Nat.{_+_, _*_, _≤_, _<_};
 ghost use lib.ListN.{length, drop};
-ghost use Rattle.lists.specs.Bytes.{allZero, same, zeros, padded, wordAt};
+ghost use Rattle.lists.specs.Bytes.{byteAt, allZero, same, zeros, padded, wordAt};
 ghost use Rattle.lists.specs.Over.{overwrite};
 
 // A byte as a count.
@@ -12,18 +13,28 @@ pub fn wide(x: u8) -> usize
     x as usize
 }
 
+// The byte at a place; 0 past the end.
+pub fn byte_at(s: &[u8], i: usize) -> u8
+    ensures { λ r. ⌜ r ≡ byteAt (now (s .entry)) i ⌝ }
+{
+    if i < s.len() {
+        return s[i];
+    }
+    0
+}
+
 // Two bytes as a number, the more significant first.
+pub fn word(hi: u8, lo: u8) -> u16
+    ensures { λ r. ⌜ r ≡ hi * 256 + lo ⌝ }
+{
+    (hi as u16) * 256 + (lo as u16)
+}
+
 pub fn word_at(s: &[u8], at: usize) -> u16
     requires { ⌜ at + 2 ≤ length (now s) ⌝ }
     ensures { λ r. ⌜ r ≡ wordAt (now (s .entry)) at ⌝ }
 {
-    joined(s[at], s[at + 1])
-}
-
-fn joined(hi: u8, lo: u8) -> u16
-    ensures { λ r. ⌜ r ≡ hi * 256 + lo ⌝ }
-{
-    (hi as u16) * 256 + (lo as u16)
+    word(s[at], s[at + 1])
 }
 
 // Every byte from `at` on is zero.
@@ -75,6 +86,13 @@ pub fn put_bytes(dst: &mut [u8], at: usize, src: &[u8])
     ensures { λ _. ⌜ now (dst .exit) ≡ overwrite (now (dst .entry)) at (now (src .entry)) ⌝ }
 {
     lay(&mut dst[at..], src);
+}
+
+pub fn put_byte(dst: &mut [u8], at: usize, b: u8)
+    requires { ⌜ at < length (now dst) ⌝ }
+    ensures { λ _. ⌜ now (dst .exit) ≡ overwrite (now (dst .entry)) at (b ∷ []) ⌝ }
+{
+    dst[at] = b;
 }
 
 // Zeros all over.

@@ -5,3 +5,13 @@ pub mod Parts
 pub mod Opened
 pub mod Inside
 pub mod Taking
+pub mod Changes
+pub mod Ends
+pub mod Feeding
+pub mod Feeds
+pub mod RowFacts
+pub mod Groupings
+pub mod Walks
+pub mod Keeps
+pub mod Lives
+pub mod Events

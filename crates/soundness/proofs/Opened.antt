@@ -22,18 +22,20 @@ use Rattle.soundness.specs.Opened.{TableOpen, RecordOpen}
 use Rattle.soundness.proofs.Tests.{and-l, and-r}
 use Rattle.soundness.proofs.Within.{spot-within, total-passes}
 
-table-fits : (l : Loading) (held missing : ℕ) → pendingFits (Table held missing) l ≡ true → TableOpen l held missing
-table-fits l held missing e =
-    let n = l .count * descriptorSize + held + missing in
+pub table-facts : (rows count held missing : ℕ) → (not (taken rows 5) && tableFits count held missing) ≡ true → TableOpen rows count held missing
+table-facts rows count held missing e =
+    let n = count * descriptorSize + held + missing in
     record {
-      untaken = not-true (taken (l .rows) 5) (search (and-l, and-r));
+      untaken = not-true (taken rows 5) (search (and-l, and-r));
       fits = leb-true n tableRoom (search (and-l, and-r));
       whole = eqb-true (n % descriptorSize) 0 (search (and-l, and-r));
       part = ltb-true held descriptorSize (search (and-l, and-r));
     }
 
-pub table-opened : (l : Loading) (held missing : ℕ) → l .pending ≡ Table held missing → pendingFits (l .pending) l ≡ true → TableOpen l held missing
-table-opened l held missing e h = table-fits l held missing (subst (λ (o : Open). pendingFits o l ≡ true) e h)
+-- AN OPEN '3100'
+pub table-opened : (l : Loading) (held missing : ℕ) → l .pending ≡ Table held missing → pendingFits (l .pending) l ≡ true
+    → TableOpen (l .rows) (l .count) held missing
+table-opened l held missing e h = table-facts (l .rows) (l .count) held missing (subst (λ (o : Open). pendingFits o l ≡ true) e h)
 
 record-fits : (l : Loading) (tag written missing : ℕ) (x : Spot) → tagSpot (fileList l) tag ≡ x → recordFits x written missing ≡ true
     → total (fileList l) ≤ areaSize → RecordOpen l tag written missing
@@ -46,6 +48,7 @@ record-fits l tag written missing (At base size) e h t = record {
   within = le-trans (spot-within (fileList l) _ _ base size e) t;
 }
 
+-- AN OPEN 'ssnn'
 pub record-opened : (l : Loading) (tag written missing : ℕ) → l .pending ≡ Record tag written missing → pendingFits (l .pending) l ≡ true
     → tablePasses (l .files) (l .count) ≡ true → RecordOpen l tag written missing
 record-opened l tag written missing e h p =

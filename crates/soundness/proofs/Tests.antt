@@ -31,3 +31,8 @@ or-left false b e n = cc
 pub or-right : (a b : Bool) → (a || b) ≡ true → a ≡ false → b ≡ true
 or-right true b e n = cc
 or-right false b e n = e
+
+-- what follows from either test follows from their "or"
+pub or-elim : {A : Type 0} (a b : Bool) → (a || b) ≡ true → (a ≡ true → A) → (b ≡ true → A) → A
+or-elim true b e f g = f refl
+or-elim false b e f g = g e

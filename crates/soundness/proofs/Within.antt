@@ -60,7 +60,7 @@ spotFrom-lies (d ∷ ds) base sfi nn =
     by-cond (LiesBy _) (eqb (d .sfi) sfi)
     (λ e. lies-later (base + sizeOf d) (base + (sizeOf d + total ds)) (spotIn d base nn) (omega arith) (spotIn-lies d base nn))
     (λ e. lies-later (base + sizeOf d + total ds) (base + (sizeOf d + total ds)) (spotFrom ds (base + sizeOf d) sfi nn) (omega arith)
-      (spotFrom-lies ds (base + sizeOf d) sfi nn))
+    (spotFrom-lies ds (base + sizeOf d) sfi nn))
 
 spotOf-lies : (files : List Descriptor) (sfi nn : ℕ) → LiesBy (total files) (spotOf files sfi nn)
 unfolding spotOf
@@ -96,7 +96,7 @@ unfolding tablePasses
 total-passes files zero e = unfold total in omega arith
 total-passes files (suc n) e =
     let h : total (take n files) + sizeOf (getD files n noFile) ≤ areaSize
-        = admitted-total (getD files n noFile) (take n files) (and-r (tablePasses files n) (passed (admitOf (getD files n noFile) (take n files))) e) in
+    = admitted-total (getD files n noFile) (take n files) (and-r (tablePasses files n) (passed (admitOf (getD files n noFile) (take n files))) e) in
     omega (arith, total-more files n)
 
 -- a descriptor set behind the first n leaves them

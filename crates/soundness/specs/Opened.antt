@@ -9,11 +9,12 @@ use Rattle.model.specs.Rows.{taken, descriptorSize, tableRoom}
 use Rattle.model.specs.Loads.{fileList}
 use Rattle.model.specs.Rules.{tagSpot}
 
--- an open '3100': its bytes and those of the descriptors make whole descriptors, no more than the table holds
-pub record TableOpen (l : Loading) (held missing : ℕ) : Type 0 where
-  pub untaken : taken (l .rows) 5 ≡ false
-  pub fits : l .count * descriptorSize + held + missing ≤ tableRoom
-  pub whole : (l .count * descriptorSize + held + missing) % descriptorSize ≡ 0
+-- an open '3100', with the rows taken and the number of descriptors: its bytes and those of the descriptors make whole descriptors, no
+-- more than the table holds
+pub record TableOpen (rows count held missing : ℕ) : Type 0 where
+  pub untaken : taken rows 5 ≡ false
+  pub fits : count * descriptorSize + held + missing ≤ tableRoom
+  pub whole : (count * descriptorSize + held + missing) % descriptorSize ≡ 0
   pub part : held < descriptorSize
 
 -- an open 'ssnn': its record is stored within the file area, and its bytes fit the record

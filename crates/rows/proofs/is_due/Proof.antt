@@ -31,7 +31,8 @@ is-rising-requires c κs = search needs
 
 returns-2 : tie.Need-returns-2
 unfolding due readyFor
-returns-2 c = ?
+returns-2 c =
+    rw (c .is-rising .ensures) (simp (← c .before .before .before .missing-before .ensures, c .before .before .if1 .left, eq-eqb _ _ (c .before .if2 .taken)))
 
 sub-result : tie.Need-sub-result
 sub-result c = search needs
@@ -44,7 +45,7 @@ shr-result c = search needs
 
 returns-3 : tie.Need-returns-3
 unfolding due readyFor noneFrom
-returns-3 c = ?
+returns-3 c = simp (← c .before .before .missing-before .ensures, c .before .if1 .left, ne-eqb _ _ (c .if2 .left))
 
 pub is-due-spec : {M : Type 1} → statement M
 is-due-spec =

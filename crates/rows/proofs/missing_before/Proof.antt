@@ -27,7 +27,10 @@ lacks-requires : tie.Need-lacks-requires Inv-loop μ-loop
 lacks-requires c κs = search needs
 
 returns : tie.Need-returns Inv-loop μ-loop
-returns c = ?
+returns c =
+    let l = c .before .before .before .loop in
+    let a = c .before .before .before .before .args in
+    sym (l .inv .1 ∙ missing-step (a .rows) (a .n) (omega arith) (l .k) (omega arith) ∙ simp (← c .before .lacks .ensures, c .if1 .taken))
 
 add-k : tie.Need-add-k Inv-loop μ-loop
 add-k c = search needs
@@ -36,10 +39,15 @@ loop-less : tie.Need-loop-less Inv-loop μ-loop
 loop-less c = search needs
 
 loop-again : tie.Need-loop-again Inv-loop μ-loop
-loop-again c = ?
+loop-again c =
+    let l = c .before .before .before .loop in
+    let a = c .before .before .before .before .args in
+    (omega arith, l .inv .1 ∙ missing-step (a .rows) (a .n) (omega arith) (l .k) (omega arith) ∙ simp (← c .before .lacks .ensures, c .if1 .left))
 
 returns-2 : tie.Need-returns-2 Inv-loop μ-loop
-returns-2 c = ?
+returns-2 c =
+    let a = c .before .before .args in
+    sym (c .before .loop .inv .1 ∙ missing-end (a .rows) (a .n) (omega arith) (c .before .loop .k) (c .loop-test .left))
 
 pub missing-before-spec : {M : Type 1} → statement M
 missing-before-spec =

@@ -38,7 +38,10 @@ add-result c = search needs
 
 returns : tie.Need-returns Inv-loop μ-loop
 unfolding rowTable
-returns c = ?
+returns c =
+    let l = c .before .before .before .before .loop in
+    let g = c .before .before .before .before .before .args .tag in
+    (sym (l .inv .1 ∙ row-step g (l .i) (omega arith) ∙ simp (← c .before .has-tag .ensures, c .if1 .taken)), omega arith)
 
 add-i : tie.Need-add-i Inv-loop μ-loop
 add-i c = search needs
@@ -48,10 +51,13 @@ loop-less c = search needs
 
 loop-again : tie.Need-loop-again Inv-loop μ-loop
 unfolding rowTable
-loop-again c = ?
+loop-again c =
+    let l = c .before .before .before .before .loop in
+    let g = c .before .before .before .before .before .args .tag in
+    (omega arith, l .inv .1 ∙ row-step g (l .i) (omega arith) ∙ simp (← c .before .has-tag .ensures, c .if1 .left))
 
 returns-2 : tie.Need-returns-2 Inv-loop μ-loop
-returns-2 c = ?
+returns-2 c = (sym (c .before .loop .inv .1 ∙ row-end _ (c .before .loop .i) (c .loop-test .left)), omega arith)
 
 pub row-of-spec : {M : Type 1} → statement M
 row-of-spec =

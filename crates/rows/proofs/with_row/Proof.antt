@@ -33,11 +33,18 @@ shl-result c = search needs
 
 add-result : tie.Need-add-result
 unfolding taken
-add-result c = ?
+add-result c =
+    let a = c .before .before .args in
+    let k : a .r - 1 ≤ 10 = omega arith in
+    let f = bit-fits (a .rows) (a .r - 1) k (search needs) (sym (c .before .is-taken .ensures) ∙ c .if1 .left) in
+    rw (bit-shifted (a .r - 1) k) (record { fits = f })
 
 returns-2 : tie.Need-returns-2
 unfolding withRow
-returns-2 c = ?
+returns-2 c =
+    let a = c .before .before .args in
+    let k : a .r - 1 ≤ 10 = omega arith in
+    rw (bit-shifted (a .r - 1) k) (simp (← c .before .is-taken .ensures, c .if1 .left))
 
 pub with-row-spec : {M : Type 1} → statement M
 with-row-spec =

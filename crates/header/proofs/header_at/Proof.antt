@@ -1,0 +1,93 @@
+use Prim.Native.Nat.{ℕ, suc, _+_, _*_, _-_, _≤_, _<_, _/_, _%_}
+use mathlib.Core.Path.{_≡_, refl, ap, sym, _∙_}
+use mathlib.Core.List.{List, [], _∷_, _++_}
+use native.Mathlib.Omega.{arith}
+use native.Mathlib.Numerals.{add-one}
+use lib.ListN.{length, take, drop, set, getD, length-set, length-take, length-drop, length-append}
+use denote.Ref.{now}
+use borrow.Author.Needs.{needs}
+use Rattle.header.proofs.Places.{torn-short, short-form, torn-long, long-ffff, long-form}
+use Rattle.header.proofs.header_at.Statement.{statement}
+use Rattle.header.proofs.header_at.Tie as tie
+use Rattle.header.proofs.header_at.Reads as reads
+use Rattle.header.proofs.header_at.Lts as lts
+use Rattle.slices.proofs.wide.Reads as wide-reads
+use Rattle.slices.proofs.word_at.Reads as word-at-reads
+
+returns : tie.Need-returns
+returns c =
+    let a = c .before .before .args in
+    sym (torn-short (now (a .s)) (a .at) (omega arith))
+
+sub-left : tie.Need-sub-left
+sub-left c = search needs
+
+returns-2 : tie.Need-returns-2
+returns-2 c =
+    let a = c .before .before .before .args in
+    sym (torn-short (now (a .s)) (a .at) (omega arith))
+
+word-at-requires : tie.Need-word-at-requires
+word-at-requires c κs = search needs
+
+add-wide : tie.Need-add-wide
+add-wide c = search needs
+
+shared-slice-read-wide : tie.Need-shared-slice-read-wide
+shared-slice-read-wide c = search needs
+
+wide-requires : tie.Need-wide-requires
+wide-requires c κs = search needs
+
+returns-3 : tie.Need-returns-3
+returns-3 c =
+    let a = c .before .before .before .before .before .before .before .args in
+    let w = c .before .wide .ensures .0 in
+    rw (c .before .before .before .word-at .ensures, w) (sym (short-form (now (a .s)) (a .at) (omega arith) (rw w at (c .if3 .taken))))
+
+returns-4 : tie.Need-returns-4
+returns-4 c =
+    let a = c .before .before .before .before .before .before .before .before .args in
+    let w = c .before .before .wide .ensures .0 in
+    sym (torn-long (now (a .s)) (a .at) (omega arith) (rw w at (c .before .if3 .left)) (omega arith))
+
+add-word-at : tie.Need-add-word-at
+add-word-at c = search needs
+
+word-at-requires-2 : tie.Need-word-at-requires-2
+word-at-requires-2 c κs = search needs
+
+returns-5 : tie.Need-returns-5
+returns-5 c =
+    let a = c .before .before .before .before .before .before .before .before .before .before .args in
+    let w = c .before .before .before .before .wide .ensures .0 in
+    sym (long-ffff (now (a .s)) (a .at) (omega arith) (rw w at (c .before .before .before .if3 .left)) (rw (c .before .word-at2 .ensures) at (c .if5 .taken)))
+
+cast-t7 : tie.Need-cast-t7
+cast-t7 c = search needs
+
+returns-6 : tie.Need-returns-6
+returns-6 c =
+    let a = c .before .before .before .before .before .before .before .before .before .before .args in
+    let w = c .before .before .before .before .wide .ensures .0 in
+    let l = c .before .word-at2 .ensures in
+    rw (c .before .before .before .before .before .before .word-at .ensures, l) (sym (long-form (now (a .s)) (a .at) (omega arith) (rw w at (c .before .before .before .if3 .left)) (rw l at (c .if5 .left))))
+
+pub header-at-spec : {M : Type 1} → statement M
+header-at-spec =
+    tie.close
+    (tie.spec
+    returns
+    sub-left
+    returns-2
+    word-at-requires
+    add-wide
+    shared-slice-read-wide
+    wide-requires
+    returns-3
+    returns-4
+    add-word-at
+    word-at-requires-2
+    returns-5
+    cast-t7
+    returns-6)

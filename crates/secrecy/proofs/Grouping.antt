@@ -1,0 +1,197 @@
+-- Hiding commutes with a grouping.
+use Prim.Native.Nat.{ℕ, zero, suc, _+_, _-_, _≤_}
+use mathlib.Core.Path.{_≡_, refl, ap, ap₂, sym, _∙_, subst}
+use mathlib.Core.Bool.{Bool, true, false, cond, not, _&&_, _||_, and-eq-true-iff, true≢false}
+use mathlib.Core.List.{List, [], _∷_, _++_, append-assoc}
+use native.Mathlib.Nat.{le-antisymm}
+use borrow.Author.Tests.{leb-true}
+use lib.Dec.{eqb, ltb, leb}
+use lib.ListN.{length, take, drop}
+use Rattle.lists.specs.Choice.{by-cond}
+use Rattle.model.specs.declared.Head.{Head}
+use Rattle.model.specs.declared.Header.{Header}
+use Rattle.model.specs.declared.Header.the-variants.{Torn, Whole}
+use Rattle.model.specs.declared.Verdict.{Verdict}
+use Rattle.model.specs.declared.Verdict.the-variants.{Passes, Refuses}
+use Rattle.model.specs.Rows.{rowOf, rowAt, rowTable, rowFrom, due}
+use Rattle.model.specs.Header.{headerOf, longForm}
+use Rattle.model.specs.Loads.{State, fileList, withTaken, withOpen, withSecret, changed}
+use Rattle.model.specs.Rules.{Result, went, asked, failed, Rule, thence, _>>=_, _>>_, judged, unless, wholeHead, isQuery, ruleA, ruleB, ruleC, ruleD, ruleE, ruleF, ruleG, ruleH, dueRow, roomOf, lengthOk, kept, startup, counterOf, openedAs, spanned, whole, fed, grouping}
+use Rattle.secrecy.specs.View.{Mark, seens, secretMarks, valueMarks, groupingMarks, marksBy, missingIn, Hiding, view}
+use Rattle.secrecy.specs.Veil.{blotted, veilState}
+use Rattle.secrecy.proofs.Marks.{length-view, take-seen, drop-seen, take-secret, drop-secret}
+use Rattle.secrecy.proofs.Veils.{keptAs, veilResult, veil-secret}
+use Rattle.secrecy.proofs.Rules.{no-query, veil-b, veil-c, veil-judged, veil-startup}
+use Rattle.secrecy.proofs.Heads.{view-head}
+use Rattle.secrecy.proofs.Steps.{hidden, Hides, hides-then, hides-behind, hides-taken, hides-fed}
+
+-- the rules from one of them on
+abbrev fromG : ℕ → ℕ → Head → List ℕ → Rule (List ℕ)
+fromG capacity row h b = do
+  ruleG row (h .len) (length b - h .size)
+  ruleH capacity row h (drop (h .size) b)
+
+abbrev fromF : ℕ → ℕ → ℕ → Head → List ℕ → Rule (List ℕ)
+fromF capacity row room h b = do
+  ruleF row room (h .len)
+  fromG capacity row h b
+
+abbrev fromE : ℕ → ℕ → Head → List ℕ → Rule (List ℕ)
+fromE capacity row h b = do
+  room ← ruleE row (h .tag)
+  fromF capacity row room h b
+
+abbrev fromD : ℕ → Head → List ℕ → Rule (List ℕ)
+fromD capacity h b = do
+  row ← ruleD (h .tag)
+  fromE capacity row h b
+
+abbrev fromC : ℕ → Head → List ℕ → Rule (List ℕ)
+fromC capacity h b = do
+  ruleC
+  fromD capacity h b
+
+abbrev fromB : ℕ → ℕ → ℕ → Head → List ℕ → Rule (List ℕ)
+fromB capacity n p1 h b = do
+  ruleB n p1 b h
+  fromC capacity h b
+
+-- '9484' is the only tag of row 1
+is-challenge : (tag : ℕ) → (leb 0x9484 tag && leb tag 0x9484) ≡ true → tag ≡ 0x9484
+is-challenge tag e =
+    let both = and-eq-true-iff (leb 0x9484 tag) (leb tag 0x9484) .0 e in
+    le-antisymm (leb-true tag 0x9484 (both .1)) (leb-true 0x9484 tag (both .0))
+
+-- the row of a tag that is no query, one by one
+row-cases : (P : ℕ → Type 0) (tag : ℕ) → isQuery tag ≡ false
+    → P 0 → P 2 → P 3 → P 4 → P 5 → P 6 → P 7 → P 8 → P 9 → P 10 → P 11 → P (rowOf tag)
+unfolding rowOf rowFrom rowTable
+row-cases P tag q p0 p2 p3 p4 p5 p6 p7 p8 p9 p10 p11 =
+    by-cond P (is 0x9484) (λ e. absurd (true≢false (subst (λ (t : ℕ). isQuery t ≡ false) (is-challenge tag e) q)))
+    (λ _. by-cond P (is 0x2000) (λ _. p2)
+    (λ _. by-cond P (is 0x2100) (λ _. p3)
+    (λ _. by-cond P (is 0x2200) (λ _. p4)
+    (λ _. by-cond P (is 0x3100) (λ _. p5)
+    (λ _. by-cond P (is 0x3800) (λ _. p6)
+    (λ _. by-cond P (is 0x4101) (λ _. p7)
+    (λ _. by-cond P (is 0x4102) (λ _. p8)
+    (λ _. by-cond P (is 0x4103) (λ _. p9)
+    (λ _. by-cond P (is 0x4104) (λ _. p10)
+    (λ _. by-cond P (leb 0x0100 tag && leb tag 0x1EFF) (λ _. p11) (λ _. p0)))))))))))
+  where
+    is : ℕ → Bool
+    is t = leb t tag && leb tag t
+
+module _ (z : Hiding) (later : List ℕ → State → List Mark) where
+  -- '2000', '2100', '2200': seen
+  hides-seen : (capacity row : ℕ) (h : Head) (b : List ℕ) (s : State)
+      → kept capacity row (take (h .len) b) (veilState z s) ≡ veilResult z (kept capacity row (take (h .len) b) s)
+      → Hides z later (seens (h .len)) b (whole capacity row h b s) (λ v. whole capacity row h v (veilState z s))
+  unfolding whole
+  hides-seen capacity row h b s e =
+      hides-taken z later (h .len) b (kept capacity row (take (h .len) b) s) (λ v. kept capacity row v (veilState z s)) (changed (withTaken row)) e (λ t. refl)
+
+  -- '3100', 'ssnn': seen, as far as they come
+  hides-spanned : (row : ℕ) (h : Head) (b : List ℕ) (s : State) → missingIn (openedAs row (h .tag) (h .len)) ≡ h .len
+      → Hides z later (seens (h .len)) b (spanned row h b s) (λ v. spanned row h v (veilState z s))
+  unfolding spanned
+  hides-spanned row h b s e =
+      rw e at (hides-fed z later b (changed (λ l. withOpen (openedAs row (h .tag) (h .len)) (l .held) l) s))
+
+  -- '3800', '410n': a secret that is kept
+  abbrev keeping : ℕ → ℕ → Head → List ℕ → Rule (List ℕ)
+  keeping k row h b s = went (drop (h .len) b) (changed (withTaken row) (changed (withSecret k (keptAs (take (h .len) b))) s))
+
+  hides-secret : (k row : ℕ) (h : Head) (b : List ℕ) (s : State)
+      → Hides z later (secretMarks k 0 (h .len)) b (keeping k row h b s) (λ v. keeping k row h v (veilState z s))
+  hides-secret k row h b s =
+      let ms = later (drop (h .len) b) (changed (withTaken row) (changed (withSecret k (keptAs (take (h .len) b))) s)) in
+      rw (take-secret z k 0 (h .len) ms b, drop-secret z k 0 (h .len) ms b)
+      (ap (λ (t : State). went (view z ms (drop (h .len) b)) (changed (withTaken row) t)) (veil-secret z k (take (h .len) b) s))
+
+  -- the rows, one by one
+  abbrev HidesRow : ℕ → Head → List ℕ → State → ℕ → Type 0
+  HidesRow capacity h b s row =
+      eqb row 0 ≡ false → Hides z later (valueMarks row (h .len)) b (ruleH capacity row h b s) (λ v. ruleH capacity row h v (veilState z s))
+
+  hides-row : (capacity : ℕ) (h : Head) (b : List ℕ) (s : State) → isQuery (h .tag) ≡ false → HidesRow capacity h b s (rowOf (h .tag))
+  unfolding ruleH rowAt rowTable whole kept
+  hides-row capacity h b s q =
+      row-cases (HidesRow capacity h b s) (h .tag) q
+      (λ e. absurd (true≢false e))
+      (λ _. hides-seen capacity 2 h b s refl)
+      (λ _. hides-seen capacity 3 h b s (veil-startup z capacity (take (h .len) b) s))
+      (λ _. hides-seen capacity 4 h b s refl)
+      (λ _. hides-spanned 5 h b s refl)
+      (λ _. hides-secret 0 6 h b s)
+      (λ _. hides-secret 1 7 h b s)
+      (λ _. hides-secret 2 8 h b s)
+      (λ _. hides-secret 3 9 h b s)
+      (λ _. hides-secret 4 10 h b s)
+      (λ _. hides-spanned 11 h b s refl)
+
+  -- rules b to h, the last first; `front` are the marks of the grouping
+  abbrev front : Head → List Mark
+  front h = groupingMarks (Whole h)
+
+  hides-g : (capacity : ℕ) (h : Head) (b : List ℕ) (s : State) → isQuery (h .tag) ≡ false → eqb (rowOf (h .tag)) 0 ≡ false
+      → Hides z later (front h) b (fromG capacity (rowOf (h .tag)) h b s) (λ v. fromG capacity (rowOf (h .tag)) h v (veilState z s))
+  hides-g capacity h b s q e =
+      hides-then z later (front h) b (ruleG (rowOf (h .tag)) (h .len) (length b - h .size) s) (λ a. ruleH capacity (rowOf (h .tag)) h (drop (h .size) b))
+      (λ v. ruleG (rowOf (h .tag)) (h .len) (length v - h .size) (veilState z s)) (λ v a. ruleH capacity (rowOf (h .tag)) h (drop (h .size) v))
+      (λ v l. rw l (unfold ruleG in veil-judged z (unless (rowAt (rowOf (h .tag)) .spans || leb (h .len) (length b - h .size)) 0x6A80) s))
+      (λ a t _. hides-behind z later (h .size) (valueMarks (rowOf (h .tag)) (h .len)) b (ruleH capacity (rowOf (h .tag)) h (drop (h .size) b) t)
+      (λ v. ruleH capacity (rowOf (h .tag)) h v (veilState z t))
+      (hides-row capacity h (drop (h .size) b) t q e))
+
+  hides-f : (capacity room : ℕ) (h : Head) (b : List ℕ) (s : State) → isQuery (h .tag) ≡ false → eqb (rowOf (h .tag)) 0 ≡ false
+      → Hides z later (front h) b (fromF capacity (rowOf (h .tag)) room h b s) (λ v. fromF capacity (rowOf (h .tag)) room h v (veilState z s))
+  hides-f capacity room h b s q e =
+      hides-then z later (front h) b (ruleF (rowOf (h .tag)) room (h .len) s) (λ a. fromG capacity (rowOf (h .tag)) h b)
+      (λ v. ruleF (rowOf (h .tag)) room (h .len) (veilState z s)) (λ v a. fromG capacity (rowOf (h .tag)) h v)
+      (λ v l. unfold ruleF in veil-judged z (unless (lengthOk (rowOf (h .tag)) room (h .len)) 0x6700) s)
+      (λ a t _. hides-g capacity h b t q e)
+
+  hides-e : (capacity : ℕ) (h : Head) (b : List ℕ) (s : State) → isQuery (h .tag) ≡ false → eqb (rowOf (h .tag)) 0 ≡ false
+      → Hides z later (front h) b (fromE capacity (rowOf (h .tag)) h b s) (λ v. fromE capacity (rowOf (h .tag)) h v (veilState z s))
+  hides-e capacity h b s q e =
+      hides-then z later (front h) b (ruleE (rowOf (h .tag)) (h .tag) s) (λ room. fromF capacity (rowOf (h .tag)) room h b)
+      (λ v. ruleE (rowOf (h .tag)) (h .tag) (veilState z s)) (λ v room. fromF capacity (rowOf (h .tag)) room h v)
+      (λ v l. unfold ruleE in veil-judged z (roomOf (fileList (s .load)) (rowOf (h .tag)) (h .tag)) s)
+      (λ room t _. hides-f capacity room h b t q e)
+
+  -- a row that is due is the tag's, and no unknown one
+  hides-d : (capacity : ℕ) (h : Head) (b : List ℕ) (s : State) → isQuery (h .tag) ≡ false
+      → Hides z later (front h) b (fromD capacity h b s) (λ v. fromD capacity h v (veilState z s))
+  unfolding ruleD dueRow
+  hides-d capacity h b s q =
+      by-cond Judged (eqb (rowOf (h .tag)) 0) (λ _. unfold view in refl)
+      (λ e. by-cond Judged (due (s .load .rows) (s .load .last) (rowOf (h .tag)) (h .tag)) (λ _. hides-e capacity h b s q e) (λ _. unfold view in refl))
+    where
+      Judged : Verdict → Type 0
+      Judged v =
+          Hides z later (front h) b (thence (judged v s) (λ row. fromE capacity row h b)) (λ w. thence (judged v (veilState z s)) (λ row. fromE capacity row h w))
+
+  hides-c : (capacity : ℕ) (h : Head) (b : List ℕ) (s : State) → isQuery (h .tag) ≡ false
+      → Hides z later (front h) b (fromC capacity h b s) (λ v. fromC capacity h v (veilState z s))
+  hides-c capacity h b s q =
+      hides-then z later (front h) b (ruleC s) (λ a. fromD capacity h b) (λ v. ruleC (veilState z s)) (λ v a. fromD capacity h v)
+      (λ v l. veil-c z s) (λ a t _. hides-d capacity h b t q)
+
+  hides-b : (capacity n p1 : ℕ) (h : Head) (b : List ℕ) (s : State)
+      → Hides z later (front h) b (fromB capacity n p1 h b s) (λ v. fromB capacity n p1 h v (veilState z s))
+  hides-b capacity n p1 h b s =
+      hides-then z later (front h) b (ruleB n p1 b h s) (λ a. fromC capacity h b) (λ v. ruleB n p1 v h (veilState z s)) (λ v a. fromC capacity h v)
+      (λ v l. veil-b z n p1 v b h s l) (λ a t e. hides-c capacity h b t (no-query n p1 b h s a t e))
+
+  -- rule a: the header is still what it was
+  hides-a : (capacity n p1 : ℕ) (b : List ℕ) (s : State) (x : Header) → headerOf b ≡ x
+      → Hides z later (groupingMarks x) b (thence (wholeHead x s) (λ h. fromB capacity n p1 h b)) (λ v. grouping capacity n p1 v (veilState z s))
+  unfolding grouping ruleA
+  hides-a capacity n p1 b s Torn e = unfold view in rw e
+  hides-a capacity n p1 b s (Whole h) e = rw (view-head z later h b (fromB capacity n p1 h b s) e) (hides-b capacity n p1 h b s)
+
+  pub hides-grouping : (capacity n p1 : ℕ) (b : List ℕ) (s : State)
+      → Hides z later (groupingMarks (headerOf b)) b (grouping capacity n p1 b s) (λ v. grouping capacity n p1 v (veilState z s))
+  unfolding grouping ruleA
+  hides-grouping capacity n p1 b s = hides-a capacity n p1 b s (headerOf b) refl

@@ -1,0 +1,119 @@
+-- Each rule of the walk, on a veiled state: it does the same, and what it comes to is veiled.
+use Prim.Native.Nat.{ℕ, zero, suc, _+_, _-_, min}
+use mathlib.Core.Path.{_≡_, refl, ap, ap₂, sym, _∙_, subst}
+use mathlib.Core.Bool.{Bool, true, false, cond, not, _&&_, _||_}
+use mathlib.Core.List.{List, [], _∷_, _++_}
+use lib.Dec.{eqb, ltb, leb}
+use lib.ListN.{length, take, drop, set}
+use Rattle.lists.specs.Bytes.{byteAt}
+use Rattle.lists.specs.Choice.{by-cond}
+use Rattle.model.specs.declared.Descriptor.{Descriptor}
+use Rattle.model.specs.declared.Open.{Open}
+use Rattle.model.specs.declared.Open.the-variants.{Shut, Table, Record}
+use Rattle.model.specs.declared.Head.{Head}
+use Rattle.model.specs.declared.Verdict.{Verdict}
+use Rattle.model.specs.declared.Verdict.the-variants.{Passes, Refuses}
+use Rattle.model.specs.Rows.{due}
+use Rattle.model.specs.Table.{descriptorOf, admitOf}
+use Rattle.model.specs.Loads.{State, fileList, withInternal, withTaken, withOpen, withStartup, changed}
+use Rattle.model.specs.Rules
+use Rattle.model.specs.Rules.{Result, went, asked, failed, Rule, thence, judged, isQuery, aloneAtStart, bit1, bit8, challenged, query, ruleB, ruleC, ruleD, ruleE, ruleF, ruleG, startup, startupOk, kept, tableDone, recordDone, described, tableByte, inTable, tableBytes, recordBytes}
+use Rattle.secrecy.specs.View.{Hiding}
+use Rattle.secrecy.specs.Veil.{veilState}
+use Rattle.secrecy.proofs.Veils.{veilResult, veil-cond, veil-thence}
+
+-- a rule that is no longer in the walk's way
+abbrev pub notWent : {A : Type 0} → Result A → Type 0
+notWent (went a s) = ⊥
+notWent (asked tag s) = Unit {0}
+notWent (failed w s) = Unit {0}
+
+-- the three queries end the command
+pub query-ends : (n p1 : ℕ) (b : List ℕ) (h : Head) (s : State) → notWent (query n p1 b h s)
+unfolding query challenged
+query-ends n p1 b h s =
+    by-cond notWent (aloneAtStart n b h)
+    (λ _. by-cond notWent (bit1 p1 && not (bit8 p1))
+    (λ _. by-cond notWent (eqb (h .tag) 0x9484)
+    (λ _. by-cond notWent (eqb (s .load .internal) 0xCC && due (s .load .rows) (s .load .last) 1 0x9484) (λ _. tt) (λ _. tt))
+    (λ _. tt))
+    (λ _. tt))
+    (λ _. tt)
+
+pub no-query : (n p1 : ℕ) (b : List ℕ) (h : Head) (s : State) (a : ℕ) (s′ : State) → ruleB n p1 b h s ≡ went a s′ → isQuery (h .tag) ≡ false
+unfolding ruleB
+no-query n p1 b h s a s′ =
+    by-cond (λ (r : Result ℕ). r ≡ went a s′ → isQuery (h .tag) ≡ false) (isQuery (h .tag))
+    (λ q e. absurd (subst notWent e (query-ends n p1 b h s)))
+    (λ q e. q)
+
+module _ (z : Hiding) where
+  veil-challenged : (s : State) → challenged (veilState z s) ≡ veilResult z (challenged s)
+  unfolding challenged
+  veil-challenged s =
+      veil-cond z (eqb (s .load .internal) 0xCC && due (s .load .rows) (s .load .last) 1 0x9484) (asked 0x9484 (changed (withTaken 1) s)) (failed 0x6985 s)
+
+  -- rule b reads how many bytes there are, and none of them
+  veil-query : (n p1 : ℕ) (v b : List ℕ) (h : Head) (s : State) → length v ≡ length b → query n p1 v h (veilState z s) ≡ veilResult z (query n p1 b h s)
+  unfolding query
+  veil-query n p1 v b h s e = rw (e, veil-challenged s) (simp (← veil-cond z))
+
+  pub veil-b : (n p1 : ℕ) (v b : List ℕ) (h : Head) (s : State) → length v ≡ length b → ruleB n p1 v h (veilState z s) ≡ veilResult z (ruleB n p1 b h s)
+  unfolding ruleB
+  veil-b n p1 v b h s e = rw (veil-query n p1 v b h s e) (veil-cond z (isQuery (h .tag)) (query n p1 b h s) (went 0 s))
+
+  pub veil-c : (s : State) → ruleC (veilState z s) ≡ veilResult z (ruleC s)
+  unfolding ruleC
+  veil-c s = veil-cond z (eqb (s .load .internal) 0xA5) (failed 0x6985 s) (went 0 (changed (withInternal 0x5A) s))
+
+  pub veil-judged : (v : Verdict) (s : State) → judged v (veilState z s) ≡ veilResult z (judged v s)
+  veil-judged (Passes n) s = refl
+  veil-judged (Refuses w) s = refl
+
+  -- '2100'
+  pub veil-startup : (capacity : ℕ) (v : List ℕ) (s : State) → startup capacity v (veilState z s) ≡ veilResult z (startup capacity v s)
+  unfolding startup
+  veil-startup capacity v s = simp (← veil-cond z)
+
+  -- '3100', byte by byte
+  veil-done : (missing : ℕ) (s : State) → tableDone missing (veilState z s) ≡ veilState z (tableDone missing s)
+  unfolding tableDone
+  veil-done zero s = refl
+  veil-done (suc m) s = refl
+
+  veil-described : (v : Verdict) (d : Descriptor) (missing : ℕ) (s : State) → described v d missing (veilState z s) ≡ veilResult z (described v d missing s)
+  veil-described (Passes n) d missing s = ap (λ (t : State). went 0 t) (veil-done missing (changed (Rattle.model.specs.Loads.withFile d) s))
+  veil-described (Refuses w) d missing s = refl
+
+  veil-byte : (held missing b : ℕ) (s : State) → tableByte held missing b (veilState z s) ≡ veilResult z (tableByte held missing b s)
+  unfolding tableByte
+  veil-byte held missing b s =
+      let bytes = set (s .load .held) held b in
+      let d = descriptorOf bytes in
+      rw (veil-described (admitOf d (fileList (s .load))) d missing s)
+      (veil-cond z (eqb (held + 1) 18) (described (admitOf d (fileList (s .load))) d missing s) (went 0 (changed (withOpen (Table (held + 1) missing) bytes) s)))
+
+  veil-inTable : (o : Open) (b : ℕ) (s : State) → inTable o b (veilState z s) ≡ veilResult z (inTable o b s)
+  veil-inTable Shut b s = refl
+  veil-inTable (Table held missing) b s = veil-byte held (missing - 1) b s
+  veil-inTable (Record tag written missing) b s = refl
+
+  pub veil-table : (bs : List ℕ) (s : State) → tableBytes bs (veilState z s) ≡ veilResult z (tableBytes bs s)
+  unfolding tableBytes
+  veil-table [] s = refl
+  veil-table (b ∷ bs) s =
+      rw (veil-inTable (s .load .pending) b s)
+      (veil-thence z (inTable (s .load .pending) b s) (λ n. tableBytes bs) (λ n t. veil-table bs t))
+
+  -- 'ssnn'
+  veil-recordDone : (tag written missing : ℕ) (s : State) → recordDone tag written missing (veilState z s) ≡ veilState z (recordDone tag written missing s)
+  unfolding recordDone
+  veil-recordDone tag written zero s = refl
+  veil-recordDone tag written (suc m) s = refl
+
+  pub veil-record : (tag written missing : ℕ) (v : List ℕ) (s : State)
+      → recordBytes tag written missing v (veilState z s) ≡ veilState z (recordBytes tag written missing v s)
+  unfolding recordBytes
+  veil-record tag written missing v s =
+      veil-recordDone tag (written + length v) (missing - length v)
+      (record { load = s .load; area = Rules.laid (Rules.tagSpot (fileList (s .load)) tag) written v (s .area) })

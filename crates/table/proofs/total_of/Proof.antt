@@ -1,0 +1,66 @@
+use Prim.Native.Nat.{_+_, _*_, _-_, _≤_}
+use mathlib.Core.Path.{_≡_}
+use native.Mathlib.Omega.{arith}
+use lib.ListN.{length, take, drop}
+use borrow.Author.Needs.{needs}
+use Rattle.table.proofs.Laws.{total-more, total-end}
+use Rattle.model.specs.Table.{total}
+use Rattle.table.proofs.total_of.Statement.{statement}
+use Rattle.table.proofs.total_of.Tie as tie
+
+abbrev Inv-loop : tie.InvT-loop
+Inv-loop count files sum₀ i₀ sum i = (i ≤ count) × (sum ≤ i * 65535) × (total (take count files) ≡ sum + total (drop i (take count files)))
+
+abbrev μ-loop : tie.MeasureT-loop
+μ-loop count files sum₀ i₀ sum i = count - i
+
+loop-holds : tie.Need-loop-holds Inv-loop μ-loop
+loop-holds c = search needs
+
+mul-e : tie.Need-mul-e Inv-loop μ-loop
+mul-e c = search needs
+
+array-copy-out-e : tie.Need-array-copy-out-e Inv-loop μ-loop
+array-copy-out-e c = search needs
+
+size-of-requires : tie.Need-size-of-requires Inv-loop μ-loop
+size-of-requires c κs = search needs
+
+add-sum : tie.Need-add-sum Inv-loop μ-loop
+add-sum c = search needs
+
+add-i : tie.Need-add-i Inv-loop μ-loop
+add-i c = search needs
+
+loop-less : tie.Need-loop-less Inv-loop μ-loop
+loop-less c = search needs
+
+loop-again : tie.Need-loop-again Inv-loop μ-loop
+loop-again c =
+    let b = c .before .before in
+    let l = b .before .loop in
+    let a = b .before .before .args in
+    let fits : a .count ≤ length (a .t1) = search needs in
+    (omega arith, omega arith, total-more (a .t1) (a .count) fits (l .i) (l .sum) (c .size-of .result) (b .loop-test .taken) (c .size-of .ensures .0) (l .inv .2))
+
+returns : tie.Need-returns Inv-loop μ-loop
+returns c =
+    let a = c .before .before .args in
+    let fits : a .count ≤ length (a .t1) = search needs in
+    omega (arith, total-end (a .t1) (a .count) fits (c .before .loop .i) (c .loop-test .left))
+
+pub total-of-spec : {M : Type 1} → statement M
+total-of-spec =
+    tie.close
+    (tie.spec
+    Inv-loop
+    μ-loop
+    loop-holds
+    mul-e
+    array-copy-out-e
+    size-of-requires
+    add-sum
+    add-i
+    loop-less
+    loop-again
+    returns)
