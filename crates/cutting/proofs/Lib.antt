@@ -7,3 +7,14 @@ pub mod Bridge
 pub mod Walks
 pub mod Begins
 pub mod Units
+pub mod Packing
+pub mod Stored
+pub mod Commands
+pub mod Played
+pub mod Taken
+pub mod Writes
+pub mod Spots
+pub mod Laid
+pub mod Passed
+pub mod Listed
+pub mod Filled

@@ -17,21 +17,19 @@ use Rattle.model.specs.Loads.{State, withTaken, changed}
 use Rattle.model.specs.Rules.{Result, went, asked, failed, Rule, thence, does, _>>_, kept}
 use Rattle.model.specs.Order.{single, groupingUnits, unitsBy, unitsIn}
 use Rattle.cutting.specs.Bytewise.{Part, between, value, ending, awaited, begun, step, run, atEnd}
+use Rattle.cutting.specs.Packs.{longestUnit}
 use Rattle.cutting.proofs.Splits.{run-append}
 use Rattle.cutting.proofs.Opened.{Misses, shut, misses-none, Leaves, Rests, rests-then, step-rests}
 use Rattle.cutting.proofs.Heads.{run-torn, run-whole, run-head, Long, header-long}
 use Rattle.cutting.proofs.Values.{Closed, kept-closed, value-whole, awaited-whole, awaited-short}
 use Rattle.cutting.proofs.Begins.{Begins, fails, opens, awaits, begins-so}
 
--- the longest unit of an order that passes: a long header and a secret's 64 bytes
-abbrev pub longestUnit : ℕ
-longestUnit = 69
-
--- lists of bytes that each take the walk from between groupings to between groupings, and the states that they lead from and to
-pub data Chain (capacity : ℕ) : State → List (List ℕ) → State → Type 0 where
-  done : {s s′ : State} → s ≡ s′ → Chain capacity s [] s′
-  link : {s s₁ s₂ : State} {u : List ℕ} {us : List (List ℕ)} (n : ℕ) → Misses (s .load .pending) n → 1 ≤ length u → length u ≤ longestUnit
-      → run capacity u between s ≡ went between s₁ → Chain capacity s₁ us s₂ → Chain capacity s (u ∷ us) s₂
+-- lists of bytes, each of at least 1 and at most `most`, that each take the walk from between groupings to between groupings, and the
+-- states that they lead from and to
+pub data Chain (capacity most : ℕ) : State → List (List ℕ) → State → Type 0 where
+  done : {s s′ : State} → s ≡ s′ → Chain capacity most s [] s′
+  link : {s s₁ s₂ : State} {u : List ℕ} {us : List (List ℕ)} (n : ℕ) → Misses (s .load .pending) n → 1 ≤ length u → length u ≤ most
+      → run capacity u between s ≡ went between s₁ → Chain capacity most s₁ us s₂ → Chain capacity most s (u ∷ us) s₂
 
 pub failed-not : {A : Type 0} (w : ℕ) (s s′ : State) (a : A) → failed w s ≡ went a s′ → ⊥
 failed-not {A} w s s′ a e = subst Fails e tt
@@ -65,7 +63,7 @@ thence-went (failed w s) = refl
 module _ (capacity fuel : ℕ) (s′ : State) where
   -- the units behind a value, from where it leaves the walk
   abbrev Later : List ℕ → Type 0
-  Later left = (s : State) → Closed s → run capacity left between s ≡ went between s′ → Chain capacity s (unitsIn fuel left) s′
+  Later left = (s : State) → Closed s → run capacity left between s ≡ went between s′ → Chain capacity longestUnit s (unitsIn fuel left) s′
 
   run-one : (b : ℕ) (s s₁ : State) → step capacity between b s ≡ went between s₁ → run capacity (b ∷ []) between s ≡ went between s₁
   unfolding run
@@ -73,7 +71,7 @@ module _ (capacity fuel : ℕ) (s′ : State) where
 
   -- the bytes of a value that may run on, one unit each
   value-chain : (rest : List ℕ) (n : ℕ) (s : State) → Misses (s .load .pending) n → run capacity rest between s ≡ went between s′
-      → Later (drop n rest) → Chain capacity s (single (take n rest) ++ unitsIn fuel (drop n rest)) s′
+      → Later (drop n rest) → Chain capacity longestUnit s (single (take n rest) ++ unitsIn fuel (drop n rest)) s′
   unfolding single run
   value-chain rest zero s m e later = later s (misses-none (s .load .pending) m) e
   value-chain [] (suc n) s m e later = let q : s ≡ s′ = cc in rw (units-none fuel) (done q)
@@ -82,8 +80,8 @@ module _ (capacity fuel : ℕ) (s′ : State) where
     where
       byte : (r : Result Part) → step capacity between b s ≡ r → Rests (λ s₁. Misses (s₁ .load .pending) n) r
           → thence r (λ p. run capacity bs p) ≡ went between s′
-          → ((s₁ : State) → Misses (s₁ .load .pending) n → run capacity bs between s₁ ≡ went between s′ → Chain capacity s₁ (single (take n bs) ++ unitsIn fuel (drop n bs)) s′)
-          → Chain capacity s ((b ∷ []) ∷ (single (take n bs) ++ unitsIn fuel (drop n bs))) s′
+          → ((s₁ : State) → Misses (s₁ .load .pending) n → run capacity bs between s₁ ≡ went between s′ → Chain capacity longestUnit s₁ (single (take n bs) ++ unitsIn fuel (drop n bs)) s′)
+          → Chain capacity longestUnit s ((b ∷ []) ∷ (single (take n bs) ++ unitsIn fuel (drop n bs))) s′
       byte (went p s₁) q h g ih = link (suc n) m (lit≤ tt) (lit≤ tt) (run-one b s s₁ (q ∙ ap (λ (x : Part). went x s₁) (h .0))) (ih s₁ (h .1) (rw (h .0) at g))
       byte (asked t s₁) q h g ih = absurd (asked-not t s₁ s′ between g)
       byte (failed w s₁) q h g ih = absurd (failed-not w s₁ s′ between g)
@@ -131,7 +129,7 @@ module _ (capacity fuel : ℕ) (s′ : State) where
         → run capacity (take (h .size + h .len) o) between s ≡ r
         → thence r (λ p. run capacity (drop (h .len) rest) p) ≡ went between s′
         → Later (drop (h .len) rest)
-        → Chain capacity s (take (h .size + h .len) o ∷ unitsIn fuel (drop (h .size + h .len) o)) s′
+        → Chain capacity longestUnit s (take (h .size + h .len) o ∷ unitsIn fuel (drop (h .size + h .len) o)) s′
     whole-ended row l (went p s₂) k e g later =
         let n : (1 ≤ length (take (h .size + h .len) o)) × (length (take (h .size + h .len) o) ≤ longestUnit) = unit-length (h .len) l in
         rw (← drop-drop (h .len) (h .size) o)
@@ -142,7 +140,7 @@ module _ (capacity fuel : ℕ) (s′ : State) where
     whole-chain : (row : ℕ) (x : Bool) → leb (h .len) (length rest) ≡ x → h .len ≤ 64 → Closed s₁ → begun capacity h s ≡ awaited capacity row (h .len) s₁
         → thence (awaited capacity row (h .len) s₁) (λ p. run capacity rest p) ≡ went between s′
         → Later (drop (h .len) rest)
-        → Chain capacity s (take (h .size + h .len) o ∷ unitsIn fuel (drop (h .size + h .len) o)) s′
+        → Chain capacity longestUnit s (take (h .size + h .len) o ∷ unitsIn fuel (drop (h .size + h .len) o)) s′
     whole-chain row true y l c₁ b g later =
         let there : h .len ≤ length rest = leb-true (h .len) (length rest) y in
         whole-ended row l (ending capacity row (take (h .len) rest) s₁) (ending-rests row (take (h .len) rest) s₁ c₁)
@@ -154,7 +152,7 @@ module _ (capacity fuel : ℕ) (s′ : State) where
     -- a grouping that may
     open-chain : begun capacity h s ≡ went between s₁ → Misses (s₁ .load .pending) (h .len)
         → run capacity rest between s₁ ≡ went between s′ → Later (drop (h .len) rest)
-        → Chain capacity s (take (h .size) o ∷ (single (take (h .len) rest) ++ unitsIn fuel (drop (h .size + h .len) o))) s′
+        → Chain capacity longestUnit s (take (h .size) o ∷ (single (take (h .len) rest) ++ unitsIn fuel (drop (h .size + h .len) o))) s′
     open-chain b m g later =
         let n : (1 ≤ length (take (h .size) o)) × (length (take (h .size) o) ≤ longestUnit) = head-length in
         rw (← drop-drop (h .len) (h .size) o)
@@ -163,7 +161,7 @@ module _ (capacity fuel : ℕ) (s′ : State) where
   -- one grouping, by what its header comes to
   grouping-chain : (o : List ℕ) (h : Head) (s : State) → headerOf o ≡ Whole h → Closed s → (r : Result Part) → begun capacity h s ≡ r → Begins capacity h r
       → thence r (λ p. run capacity (drop (h .size) o) p) ≡ went between s′ → Later (drop (h .len) (drop (h .size) o))
-      → Chain capacity s (groupingUnits h o ++ unitsIn fuel (drop (h .size + h .len) o)) s′
+      → Chain capacity longestUnit s (groupingUnits h o ++ unitsIn fuel (drop (h .size + h .len) o)) s′
   grouping-chain o h s q c r b (fails w s₁) g later = absurd (failed-not w s₁ s′ between g)
   grouping-chain o h s q c r b (opens s₁ sp m) g later = rw sp (open-chain o h s s₁ q c b m g later)
   grouping-chain o h s q c r b (awaits row s₁ sp l c₁) g later =
@@ -171,7 +169,7 @@ module _ (capacity fuel : ℕ) (s′ : State) where
 
 -- the units of bytes that pass
 pub units-chain : (fuel capacity : ℕ) (o : List ℕ) (s s′ : State) → length o ≤ fuel → Closed s → run capacity o between s ≡ went between s′
-    → Chain capacity s (unitsIn fuel o) s′
+    → Chain capacity longestUnit s (unitsIn fuel o) s′
 unfolding unitsIn
 units-chain zero capacity [] s s′ f c e = let q : s ≡ s′ = unfold run in cc in done q
 units-chain zero capacity (b ∷ bs) s s′ f c e = absurd (omega arith)
@@ -180,7 +178,7 @@ units-chain (suc fuel) capacity (b ∷ bs) s s′ f c e =
     by-header (headerOf (b ∷ bs)) refl (λ left l s₁ c₁ e₁. units-chain fuel capacity left s₁ s′ l c₁ e₁)
   where
     by-header : (x : Header) → headerOf (b ∷ bs) ≡ x → ((left : List ℕ) → length left ≤ fuel → Later capacity fuel s′ left)
-        → Chain capacity s (unitsBy (λ o. unitsIn fuel o) x (b ∷ bs)) s′
+        → Chain capacity longestUnit s (unitsBy (λ o. unitsIn fuel o) x (b ∷ bs)) s′
     by-header Torn q later = absurd (failed-not {A = ℕ} 0x6A80 s s′ 0 (sym (run-torn (went 0) capacity b bs s c q) ∙ ap (λ (r : Result Part). thence r (atEnd (went 0))) e))
     by-header (Whole h) q later =
         let g : Long (b ∷ bs) h = header-long (b ∷ bs) h q in

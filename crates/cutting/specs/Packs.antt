@@ -17,6 +17,10 @@ pub data Packs : List (List ℕ) → List (List ℕ) → Type 0 where
   next : (us : List (List ℕ)) (c u : List ℕ) (vs cs : List (List ℕ))
       → c ≡ joined us → dataRoom < length c + length u → Packs (u ∷ vs) cs → Packs (us ++ (u ∷ vs)) (c ∷ cs)
 
+-- the longest unit of a complete order: a header of five bytes and a secret's 64
+abbrev pub longestUnit : ℕ
+longestUnit = 69
+
 -- every list has at least `least` bytes and at most `most`
 pub data Sized (least most : ℕ) : List (List ℕ) → Type 0 where
   none : Sized least most []

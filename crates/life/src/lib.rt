@@ -11,7 +11,7 @@ ghost use Rattle.lists.specs.Over.{overwrite};
 ghost use Rattle.model.specs.Events.{says, withLife, withGp, isName, nameOf, nameFci, fullFci, namesIn, nameLength, installForm, selectableForm, installing, makingSelectable, install, invalidated, select, lock, unlock, deselect, foreign};
 ghost use Rattle.life.specs.Places.{placesIn, namedAs};
 ghost use mathlib.Core.Bool.{true};
-ghost use Rattle.life.specs.Answers.{Answers};
+ghost use Rattle.life.specs.Answers.{Answers, front};
 
 // The word of an event, and the life after it.
 pub struct Lived {
@@ -37,13 +37,13 @@ pub fn locked_by(c: Card) -> Lived
     let life = c.life;
     if life.gp == 0x00 {
         return Lived {
-            word: 0x6A88,
+            word: 0x6A88, // nothing to lock
             life: life,
         };
     }
     if LOCKED <= life.gp {
         return Lived {
-            word: 0x6985,
+            word: 0x6985, // locked already
             life: life,
         };
     }
@@ -63,13 +63,13 @@ pub fn unlocked_by(c: Card) -> Lived
     let life = c.life;
     if life.gp == 0x00 {
         return Lived {
-            word: 0x6A88,
+            word: 0x6A88, // nothing to unlock
             life: life,
         };
     }
     if life.gp < LOCKED {
         return Lived {
-            word: 0x6985,
+            word: 0x6985, // not locked
             life: life,
         };
     }
@@ -105,7 +105,7 @@ pub fn answered_foreign(c: Card) -> Lived
         };
     }
     Lived {
-        word: 0x6985,
+        word: 0x6985, // not selected
         life: life,
     }
 }
@@ -212,12 +212,12 @@ fn installed(c: Card, area: &mut [u8], p1: u8, d: &[u8]) -> Lived
             };
         }
         return Lived {
-            word: 0x6985,
+            word: 0x6985, // present
             life: life,
         };
     }
     Lived {
-        word: 0x6A80,
+        word: 0x6A80, // not the form of '04' and '0C'
         life: life,
     }
 }
@@ -256,7 +256,7 @@ fn made_selectable(c: Card, d: &[u8]) -> Lived
     if is_selectable_form(d) {
         if life.gp == 0x00 {
             return Lived {
-                word: 0x6A88,
+                word: 0x6A88, // nothing installed
                 life: life,
             };
         }
@@ -273,17 +273,17 @@ fn made_selectable(c: Card, d: &[u8]) -> Lived
                 };
             }
             return Lived {
-                word: 0x6985,
+                word: 0x6985, // not '03'
                 life: life,
             };
         }
         return Lived {
-            word: 0x6A88,
+            word: 0x6A88, // another name
             life: life,
         };
     }
     Lived {
-        word: 0x6A80,
+        word: 0x6A80, // not the form of '08'
         life: life,
     }
 }
@@ -309,19 +309,28 @@ pub fn installed_by(c: Card, area: &mut [u8], p1: u8, d: &[u8]) -> Lived
     }
 }
 
-// The name FCI at the front of the answer buffer: how many bytes it has.
+// What both FCIs begin with, at the front of the answer buffer: 6F, a length of n and `more`, 84, n, the name.
+fn lay_front(answer: &mut [u8], life: Life, more: usize)
+    requires { ⌜ (64 ≤ length (now answer)) × (life .namelen ≤ 16) × (more ≤ 26) ⌝ }
+    ensures { λ _. ⌜ now (answer .exit) ≡ overwrite (now (answer .entry)) 0 (front more life) ⌝ }
+{
+    let name = life.name;
+    let n = life.namelen;
+    slices::put_bytes(answer, 0, b"\x6F");
+    slices::put_byte(answer, 1, (n + more) as u8);
+    slices::put_bytes(answer, 2, b"\x84");
+    slices::put_byte(answer, 3, n as u8);
+    slices::put_bytes(answer, 4, &name[..n]);
+}
+
+// The name FCI: how many bytes it has.
 pub fn lay_name_fci(answer: &mut [u8], c: Card) -> usize
     requires { ⌜ (64 ≤ length (now answer)) × (c .life .namelen ≤ 16) ⌝ }
     ensures { λ r. ⌜ (r ≡ length (nameFci c)) × (now (answer .exit) ≡ overwrite (now (answer .entry)) 0 (nameFci c)) ⌝ }
 {
-    let name = c.life.name;
-    let n = c.life.namelen;
-    slices::put_bytes(answer, 0, b"\x6F");
-    slices::put_byte(answer, 1, (n + 2) as u8);
-    slices::put_bytes(answer, 2, b"\x84");
-    slices::put_byte(answer, 3, n as u8);
-    slices::put_bytes(answer, 4, &name[..n]);
-    n + 4
+    let life = c.life;
+    lay_front(answer, life, 2);
+    life.namelen + 4
 }
 
 // The full FCI.
@@ -329,15 +338,11 @@ fn lay_full_fci(answer: &mut [u8], c: Card) -> usize
     requires { ⌜ (64 ≤ length (now answer)) × (c .life .namelen ≤ 16) ⌝ }
     ensures { λ r. ⌜ (r ≡ length (fullFci c)) × (now (answer .exit) ≡ overwrite (now (answer .entry)) 0 (fullFci c)) ⌝ }
 {
-    let name = c.life.name;
-    let n = c.life.namelen;
+    let life = c.life;
+    let n = life.namelen;
     let serial = c.loading.serial;
     let startup = c.loading.startup;
-    slices::put_bytes(answer, 0, b"\x6F");
-    slices::put_byte(answer, 1, (n + 26) as u8);
-    slices::put_bytes(answer, 2, b"\x84");
-    slices::put_byte(answer, 3, n as u8);
-    slices::put_bytes(answer, 4, &name[..n]);
+    lay_front(answer, life, 26);
     slices::put_bytes(answer, 4 + n, b"\xA5\x16\xBF\x0C\x13\xC7\x08");
     slices::put_bytes(answer, 11 + n, &serial);
     slices::put_bytes(answer, 19 + n, b"\x53\x07");
@@ -365,7 +370,7 @@ pub fn selected_by(c: Card, answer: &mut [u8], d: &[u8]) -> Replied
     let life = c.life;
     if life.gp != 0x07 {
         return Replied {
-            word: 0x6A82,
+            word: 0x6A82, // not '07'
             answered: 0,
             life: life,
         };
@@ -397,7 +402,7 @@ pub fn selected_by(c: Card, answer: &mut [u8], d: &[u8]) -> Replied
         };
     }
     Replied {
-        word: 0x6A82,
+        word: 0x6A82, // another name
         answered: 0,
         life: life,
     }

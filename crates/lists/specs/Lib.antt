@@ -3,3 +3,4 @@ pub mod Bytes
 pub mod Over
 pub mod Choice
 pub mod Rest
+pub mod Least

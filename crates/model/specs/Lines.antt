@@ -38,10 +38,13 @@ lineFeed = 0x0A
 
 -- "Fields: event number .., kind and refusal number (two decimal digits; a kind byte over 99 as 99), word, GP and internal (hexadecimal
 -- capitals), rows taken (two decimal digits), a blank between"
-unfoldable pub lineOf : ℕ → ℕ → ℕ → ℕ → Card → List ℕ
-lineOf n kind number word c =
+unfoldable pub lineWith : ℕ → ℕ → ℕ → ℕ → ℕ → ℕ → ℕ → List ℕ
+lineWith n kind number word gp internal rows =
     five n ++ blank ∷ two (min kind 99) ++ blank ∷ two number ++ blank ∷ hex4 word
-    ++ blank ∷ hex2 (c .life .gp) ++ blank ∷ hex2 (c .loading .internal) ++ blank ∷ two (takenOf (c .loading .rows)) ++ lineFeed ∷ []
+    ++ blank ∷ hex2 gp ++ blank ∷ hex2 internal ++ blank ∷ two (takenOf rows) ++ lineFeed ∷ []
+
+abbrev pub lineOf : ℕ → ℕ → ℕ → ℕ → Card → List ℕ
+lineOf n kind number word c = lineWith n kind number word (c .life .gp) (c .loading .internal) (c .loading .rows)
 
 -- "last END and the number of events, in five digits as above"
 unfoldable pub endOf : ℕ → List ℕ

@@ -1,17 +1,17 @@
 -- Two cards that are equal when veiled are alike in all but their secrets' hidden bytes.
 use Prim.Native.Nat.{ℕ, zero, suc, _+_}
 use mathlib.Core.Path.{_≡_, refl, ap, sym, _∙_}
-use mathlib.Core.Bool.{Bool, true, false}
+use mathlib.Core.Bool.{true, false}
 use mathlib.Core.List.{List, [], _∷_}
 use native.Mathlib.Nat.{add-zero, add-suc, suc-add, zero-add}
 use lib.ListN.{length, getD}
-use Rattle.lists.specs.Bytes.{byteAt, zeros}
+use Rattle.lists.specs.Bytes.{byteAt}
 use Rattle.model.specs.declared.Secret.{Secret}
 use Rattle.model.specs.declared.Card.{Card}
 use Rattle.model.specs.Stored.{noSecret}
 use Rattle.model.specs.Session.{Turn, Run}
 use Rattle.secrecy.specs.View.{Hiding}
-use Rattle.secrecy.specs.Veil.{blotted, veilSecret, veilSecrets, veil, veilTurn, veilRun}
+use Rattle.secrecy.specs.Veil.{veilSecret, veilSecrets, veil, veilTurn, veilRun}
 use Rattle.secrecy.specs.Alike.{secretOf, AlikeCards, AlikeTurns, AlikeRuns}
 use Rattle.secrecy.proofs.Marks.{length-blotted, blotted-zeros, byte-blotted}
 
@@ -51,10 +51,10 @@ module _ (z : Hiding) where
       secrets = alike-count;
       lengths = λ k. ap (λ (x : Secret). x .len) (alike-secret k);
       rooms = λ k.
-        sym (length-blotted (z k) 0 (secretOf c k .bytes)) ∙ ap (λ (x : Secret). length (x .bytes)) (alike-secret k) ∙ length-blotted (z k) 0 (secretOf d k .bytes);
+          sym (length-blotted (z k) 0 (secretOf c k .bytes)) ∙ ap (λ (x : Secret). length (x .bytes)) (alike-secret k) ∙ length-blotted (z k) 0 (secretOf d k .bytes);
       bytes = λ k j h.
-        sym (byte-blotted (z k) 0 j (secretOf c k .bytes) (rw zero-add h)) ∙ ap (λ (x : Secret). byteAt (x .bytes) j) (alike-secret k)
-        ∙ byte-blotted (z k) 0 j (secretOf d k .bytes) (rw zero-add h);
+          sym (byte-blotted (z k) 0 j (secretOf c k .bytes) (rw zero-add h)) ∙ ap (λ (x : Secret). byteAt (x .bytes) j) (alike-secret k)
+          ∙ byte-blotted (z k) 0 j (secretOf d k .bytes) (rw zero-add h);
     }
 
   pub alike-turns : (t u : Turn) → veilTurn z t ≡ veilTurn z u → AlikeTurns z t u

@@ -1,14 +1,13 @@
 -- Hiding commutes with a command.
 use Prim.Native.Nat.{ℕ, zero, suc}
-use mathlib.Core.Path.{_≡_, refl, ap, ap₂, sym, _∙_}
-use mathlib.Core.Bool.{Bool, true, false, cond, not, _&&_}
-use mathlib.Core.List.{List, [], _∷_, _++_}
+use mathlib.Core.Path.{_≡_, refl, ap, _∙_}
+use mathlib.Core.Bool.{true, false}
+use mathlib.Core.List.{List, [], _∷_}
 use native.Mathlib.Omega.{arith}
 use lib.ListN.{length}
-use Rattle.model.specs.Rows.{mandatoryMissing}
 use Rattle.model.specs.Header.{headerOf}
-use Rattle.model.specs.Loads.{State, withInternal, changed}
-use Rattle.model.specs.Rules.{Result, went, asked, failed, Rule, thence, bit8, fed, grouping}
+use Rattle.model.specs.Loads.{State}
+use Rattle.model.specs.Rules.{Result, went, asked, failed, Rule, thence, fed, grouping}
 use Rattle.model.specs.Command.{walk, ready, theEnd, command}
 use Rattle.secrecy.specs.View.{Mark, seens, groupingMarks, missingIn, marksBy, marksWalk, marksCommand, Hiding, view}
 use Rattle.secrecy.specs.Veil.{veilState}

@@ -1,23 +1,59 @@
 -- Hiding commutes with an event.
-use Prim.Native.Nat.{ℕ, zero, suc, _+_, _-_}
-use mathlib.Core.Path.{_≡_, refl, ap, ap₂, sym, _∙_, subst}
+use Prim.Native.Nat.{ℕ}
+use mathlib.Core.Path.{_≡_, refl, sym}
 use mathlib.Core.Bool.{Bool, true, false, cond, not, _&&_, _||_, and-true, and-eq-true-iff, true≢false}
-use mathlib.Core.List.{List, [], _∷_, _++_}
-use lib.Dec.{eqb, leb, ltb}
-use lib.ListN.{length}
+use mathlib.Core.List.{List}
+use lib.Dec.{eqb}
 use borrow.Author.Tests.{eqb-true}
-use Rattle.lists.specs.Bytes.{zeros}
+use Rattle.lists.specs.Bytes.{byteAt}
 use Rattle.model.specs.declared.Card.{Card}
-use Rattle.model.specs.Stored.{Event, areaSize}
-use Rattle.model.specs.Loads.{State}
+use Rattle.model.specs.Stored.{Event, eventIn, paddedZero}
 use Rattle.model.specs.Rules.{Result, went, asked, failed}
 use Rattle.model.specs.Command.{command}
-use Rattle.model.specs.Events.{Reply, withLoading, withGp, locked, says, gives, Names, isName, absent, nameFci, fullFci, namesIn, installForm, selectableForm, installedAs, installing, makingSelectable, install, invalidated, select, lock, unlock, deselect, foreign, answerTo, errs, commanded, storeData, stuck, personalizing, otherwise, event}
-use Rattle.secrecy.specs.View.{Mark, marksCommand, walked, stateIn, Hiding, view}
-use Rattle.secrecy.specs.Veil.{veil, veilState}
+use Rattle.model.specs.Events.{Reply, withLoading, locked, says, Names, isName, nameFci, fullFci, namesIn, installing, makingSelectable, install, invalidated, select, lock, unlock, deselect, foreign, answerTo, errs, commanded, storeData, stuck, personalizing, otherwise, event}
+use Rattle.model.specs.Session.{replied, turnOf}
+use Rattle.secrecy.specs.View.{marksCommand, walked, stateIn, Hiding, view}
+use Rattle.secrecy.specs.Veil.{veil}
 use Rattle.secrecy.proofs.Marks.{length-view}
 use Rattle.secrecy.proofs.Veils.{veilResult}
 use Rattle.secrecy.proofs.Commands.{hides-command}
+
+-- a STORE DATA that is not walked, at '07' or out of '5A', is one of a card that is not selected
+pub unselected : (k2 sel i5 g7 : Bool) → (k2 && sel && (not i5 || g7)) ≡ false → k2 ≡ true → (not i5 || g7) ≡ true → sel ≡ false
+unselected k2 sel i5 g7 w k o = rw (k, o, and-true) at w
+
+-- a walked STORE DATA
+chosen : (i5 g7 : Bool) (x y : Reply) → (not i5 || g7) ≡ true → cond i5 (cond g7 x y) x ≡ x
+chosen true true x y o = refl
+chosen true false x y o = absurd (true≢false (sym o))
+chosen false g7 x y o = refl
+
+abbrev pub storing : ℕ → List ℕ → Event
+storing p1 d = record { kind = 2; p1 = p1; bytes = d }
+
+pub stores : (p1 : ℕ) (d : List ℕ) (c : Card) (a : List ℕ) → (not (eqb (c .loading .internal) 0x5A) || eqb (c .life .gp) 0x07) ≡ true
+    → event (storing p1 d) c a ≡ storeData p1 d c a
+unfolding event personalizing otherwise
+stores p1 d c a o = chosen (eqb (c .loading .internal) 0x5A) (eqb (c .life .gp) 0x07) (storeData p1 d c a) (stuck (storing p1 d) c a) o
+
+-- the record of a walked STORE DATA
+pub record Walks (r : List ℕ) (c : Card) : Type 0 where
+  pub padded : paddedZero r ≡ true
+  pub kind : byteAt r 0 ≡ 2
+  pub selected : c .life .selected ≡ true
+  pub at-07 : (not (eqb (c .loading .internal) 0x5A) || eqb (c .life .gp) 0x07) ≡ true
+
+pub walks : (r : List ℕ) (c : Card) → (paddedZero r && walked (eventIn r) c) ≡ true → Walks r c
+walks r c w =
+    let at-07 = not (eqb (c .loading .internal) 0x5A) || eqb (c .life .gp) 0x07 in
+    let form = and-eq-true-iff (paddedZero r) (walked (eventIn r) c) .0 w in
+    let place = and-eq-true-iff (eqb (byteAt r 0) 2 && c .life .selected) at-07 .0 (form .1) in
+    let store = and-eq-true-iff (eqb (byteAt r 0) 2) (c .life .selected) .0 (place .0) in
+    record { padded = form .0; kind = eqb-true (byteAt r 0) 2 (store .0); selected = store .1; at-07 = place .1 }
+
+pub played : (c : Card) (a r : List ℕ) → byteAt r 0 ≡ 2 → paddedZero r ≡ true → turnOf c a r ≡ replied (event (eventIn r) c a)
+unfolding turnOf
+played c a r k p = rw (k, p)
 
 module _ (z : Hiding) where
   abbrev pub veilReply : Reply → Reply
@@ -99,10 +135,6 @@ module _ (z : Hiding) where
   veiled-if true p q = p refl
   veiled-if false p q = q refl
 
-  -- a STORE DATA that is not walked, at '07' or out of '5A', is one of a card that is not selected
-  unselected : (k2 sel i5 g7 : Bool) → (k2 && sel && (not i5 || g7)) ≡ false → k2 ≡ true → (not i5 || g7) ≡ true → sel ≡ false
-  unselected k2 sel i5 g7 w k o = rw (k, o, and-true) at w
-
   -- an event that is no walked STORE DATA: no byte of it is hidden
   pub veil-event : (e : Event) (c : Card) (a : List ℕ) → walked e c ≡ false → event e (veil z c) a ≡ veilReply (event e c a)
   unfolding event personalizing otherwise
@@ -126,20 +158,6 @@ module _ (z : Hiding) where
           (λ _. veiled-if (eqb (e .kind) 7) (λ _. record { same = veil-lock c a })
           (λ _. veiled-if (eqb (e .kind) 8) (λ _. record { same = veil-unlock c a })
           (λ _. record { same = veil-deselect c a })))))))
-
-  -- a walked STORE DATA
-  chosen : (i5 g7 : Bool) (x y : Reply) → (not i5 || g7) ≡ true → cond i5 (cond g7 x y) x ≡ x
-  chosen true true x y o = refl
-  chosen true false x y o = absurd (true≢false (sym o))
-  chosen false g7 x y o = refl
-
-  abbrev pub storing : ℕ → List ℕ → Event
-  storing p1 d = record { kind = 2; p1 = p1; bytes = d }
-
-  stores : (p1 : ℕ) (d : List ℕ) (c : Card) (a : List ℕ) → (not (eqb (c .loading .internal) 0x5A) || eqb (c .life .gp) 0x07) ≡ true
-      → event (storing p1 d) c a ≡ storeData p1 d c a
-  unfolding event personalizing otherwise
-  stores p1 d c a o = chosen (eqb (c .loading .internal) 0x5A) (eqb (c .life .gp) 0x07) (storeData p1 d c a) (stuck (storing p1 d) c a) o
 
   pub hides-event : (p1 : ℕ) (d : List ℕ) (c : Card) (a : List ℕ) → (not (eqb (c .loading .internal) 0x5A) || eqb (c .life .gp) 0x07) ≡ true
       → event (storing p1 (view z (marksCommand (c .chip .capacity) p1 d (stateIn c a)) d)) (veil z c) a ≡ veilReply (event (storing p1 d) c a)

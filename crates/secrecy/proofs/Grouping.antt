@@ -1,86 +1,27 @@
 -- Hiding commutes with a grouping.
-use Prim.Native.Nat.{ℕ, zero, suc, _+_, _-_, _≤_}
-use mathlib.Core.Path.{_≡_, refl, ap, ap₂, sym, _∙_, subst}
-use mathlib.Core.Bool.{Bool, true, false, cond, not, _&&_, _||_, and-eq-true-iff, true≢false}
-use mathlib.Core.List.{List, [], _∷_, _++_, append-assoc}
-use native.Mathlib.Nat.{le-antisymm}
-use borrow.Author.Tests.{leb-true}
-use lib.Dec.{eqb, ltb, leb}
+use Prim.Native.Nat.{ℕ, _-_}
+use mathlib.Core.Path.{_≡_, refl, ap}
+use mathlib.Core.Bool.{true, false, _||_, true≢false}
+use mathlib.Core.List.{List}
+use lib.Dec.{eqb, leb}
 use lib.ListN.{length, take, drop}
 use Rattle.lists.specs.Choice.{by-cond}
 use Rattle.model.specs.declared.Head.{Head}
 use Rattle.model.specs.declared.Header.{Header}
 use Rattle.model.specs.declared.Header.the-variants.{Torn, Whole}
 use Rattle.model.specs.declared.Verdict.{Verdict}
-use Rattle.model.specs.declared.Verdict.the-variants.{Passes, Refuses}
-use Rattle.model.specs.Rows.{rowOf, rowAt, rowTable, rowFrom, due}
-use Rattle.model.specs.Header.{headerOf, longForm}
+use Rattle.model.specs.Rows.{rowOf, rowAt, rowTable, due}
+use Rattle.model.specs.Header.{headerOf}
 use Rattle.model.specs.Loads.{State, fileList, withTaken, withOpen, withSecret, changed}
-use Rattle.model.specs.Rules.{Result, went, asked, failed, Rule, thence, _>>=_, _>>_, judged, unless, wholeHead, isQuery, ruleA, ruleB, ruleC, ruleD, ruleE, ruleF, ruleG, ruleH, dueRow, roomOf, lengthOk, kept, startup, counterOf, openedAs, spanned, whole, fed, grouping}
-use Rattle.secrecy.specs.View.{Mark, seens, secretMarks, valueMarks, groupingMarks, marksBy, missingIn, Hiding, view}
-use Rattle.secrecy.specs.Veil.{blotted, veilState}
-use Rattle.secrecy.proofs.Marks.{length-view, take-seen, drop-seen, take-secret, drop-secret}
+use Rattle.model.specs.Rules.{went, asked, failed, Rule, thence, judged, unless, wholeHead, isQuery, ruleA, ruleB, ruleC, ruleD, ruleE, ruleF, ruleG, ruleH, dueRow, roomOf, lengthOk, kept, openedAs, spanned, whole, grouping}
+use Rattle.secrecy.specs.View.{Mark, seens, secretMarks, valueMarks, groupingMarks, missingIn, Hiding, view}
+use Rattle.secrecy.specs.Veil.{veilState}
+use Rattle.secrecy.proofs.Marks.{take-secret, drop-secret}
 use Rattle.secrecy.proofs.Veils.{keptAs, veilResult, veil-secret}
 use Rattle.secrecy.proofs.Rules.{no-query, veil-b, veil-c, veil-judged, veil-startup}
 use Rattle.secrecy.proofs.Heads.{view-head}
-use Rattle.secrecy.proofs.Steps.{hidden, Hides, hides-then, hides-behind, hides-taken, hides-fed}
-
--- the rules from one of them on
-abbrev fromG : ℕ → ℕ → Head → List ℕ → Rule (List ℕ)
-fromG capacity row h b = do
-  ruleG row (h .len) (length b - h .size)
-  ruleH capacity row h (drop (h .size) b)
-
-abbrev fromF : ℕ → ℕ → ℕ → Head → List ℕ → Rule (List ℕ)
-fromF capacity row room h b = do
-  ruleF row room (h .len)
-  fromG capacity row h b
-
-abbrev fromE : ℕ → ℕ → Head → List ℕ → Rule (List ℕ)
-fromE capacity row h b = do
-  room ← ruleE row (h .tag)
-  fromF capacity row room h b
-
-abbrev fromD : ℕ → Head → List ℕ → Rule (List ℕ)
-fromD capacity h b = do
-  row ← ruleD (h .tag)
-  fromE capacity row h b
-
-abbrev fromC : ℕ → Head → List ℕ → Rule (List ℕ)
-fromC capacity h b = do
-  ruleC
-  fromD capacity h b
-
-abbrev fromB : ℕ → ℕ → ℕ → Head → List ℕ → Rule (List ℕ)
-fromB capacity n p1 h b = do
-  ruleB n p1 b h
-  fromC capacity h b
-
--- '9484' is the only tag of row 1
-is-challenge : (tag : ℕ) → (leb 0x9484 tag && leb tag 0x9484) ≡ true → tag ≡ 0x9484
-is-challenge tag e =
-    let both = and-eq-true-iff (leb 0x9484 tag) (leb tag 0x9484) .0 e in
-    le-antisymm (leb-true tag 0x9484 (both .1)) (leb-true 0x9484 tag (both .0))
-
--- the row of a tag that is no query, one by one
-row-cases : (P : ℕ → Type 0) (tag : ℕ) → isQuery tag ≡ false
-    → P 0 → P 2 → P 3 → P 4 → P 5 → P 6 → P 7 → P 8 → P 9 → P 10 → P 11 → P (rowOf tag)
-unfolding rowOf rowFrom rowTable
-row-cases P tag q p0 p2 p3 p4 p5 p6 p7 p8 p9 p10 p11 =
-    by-cond P (is 0x9484) (λ e. absurd (true≢false (subst (λ (t : ℕ). isQuery t ≡ false) (is-challenge tag e) q)))
-    (λ _. by-cond P (is 0x2000) (λ _. p2)
-    (λ _. by-cond P (is 0x2100) (λ _. p3)
-    (λ _. by-cond P (is 0x2200) (λ _. p4)
-    (λ _. by-cond P (is 0x3100) (λ _. p5)
-    (λ _. by-cond P (is 0x3800) (λ _. p6)
-    (λ _. by-cond P (is 0x4101) (λ _. p7)
-    (λ _. by-cond P (is 0x4102) (λ _. p8)
-    (λ _. by-cond P (is 0x4103) (λ _. p9)
-    (λ _. by-cond P (is 0x4104) (λ _. p10)
-    (λ _. by-cond P (leb 0x0100 tag && leb tag 0x1EFF) (λ _. p11) (λ _. p0)))))))))))
-  where
-    is : ℕ → Bool
-    is t = leb t tag && leb tag t
+use Rattle.secrecy.proofs.Stages.{fromB, fromC, fromD, fromE, fromF, fromG, row-cases}
+use Rattle.secrecy.proofs.Steps.{Hides, hides-then, hides-behind, hides-taken, hides-fed}
 
 module _ (z : Hiding) (later : List ℕ → State → List Mark) where
   -- '2000', '2100', '2200': seen

@@ -1,11 +1,25 @@
+-- Demand 3, "Secrets stay secret", over the definition of document 01. A grouping, a command, an event and a session that are given what may
+-- be seen, on a veiled card, do the same (Marks to Turns); so two sessions that look alike are alike (Cards, Sessions, Calls, Replay).
+-- What is hidden is what the card keeps as a secret, byte for byte (Places to Kept), the view tells which bytes those are (Told), and
+-- it leaves all others (Leaves, Witnesses).
 pub mod Marks
 pub mod Veils
 pub mod Rules
 pub mod Steps
 pub mod Heads
+pub mod Stages
 pub mod Grouping
 pub mod Commands
 pub mod Events
 pub mod Turns
 pub mod Cards
 pub mod Sessions
+pub mod Calls
+pub mod Replay
+pub mod Places
+pub mod Stays
+pub mod Keeps
+pub mod Kept
+pub mod Told
+pub mod Leaves
+pub mod Witnesses

@@ -1,11 +1,11 @@
 -- Laws of the view: its length, and that it is made part by part.
-use Prim.Native.Nat.{ℕ, zero, suc, _+_, _-_, _≤_, _<_}
-use mathlib.Core.Path.{_≡_, refl, ap, ap₂, sym, _∙_}
-use mathlib.Core.Bool.{Bool, true, false, cond, _&&_, and-eq-true-iff}
+use Prim.Native.Nat.{ℕ, zero, suc, _+_}
+use mathlib.Core.Path.{_≡_, refl, ap, ap₂, sym}
+use mathlib.Core.Bool.{Bool, true, false, cond, and-eq-true-iff}
 use mathlib.Core.List.{List, [], _∷_, _++_}
 use native.Mathlib.Nat.{add-zero, add-suc, suc-add}
 use lib.Dec.{eqb}
-use lib.ListN.{length, getD, take, drop, replicate}
+use lib.ListN.{length, take, drop}
 use borrow.Author.Tests.{eqb-true}
 use Rattle.lists.specs.Bytes.{byteAt, zeros, allZero}
 use Rattle.secrecy.specs.View.{Mark, seen, secret, seens, secretMarks, Hiding, shownAs, view}
@@ -65,6 +65,14 @@ module _ (z : Hiding) where
   take-view (suc n) (m ∷ ms) [] = refl
   take-view (suc n) (m ∷ ms) (b ∷ bs) = ap (λ (l : List ℕ). shownAs z m b ∷ l) (take-view n ms bs)
 
+  -- marks past the bytes say nothing
+  pub view-within : (n : ℕ) (ms : List Mark) (bs : List ℕ) → view z (take n ms) (take n bs) ≡ view z ms (take n bs)
+  unfolding view
+  view-within zero ms bs = sym (view-nil ms)
+  view-within (suc n) [] bs = refl
+  view-within (suc n) (m ∷ ms) [] = refl
+  view-within (suc n) (m ∷ ms) (b ∷ bs) = ap (λ (l : List ℕ). shownAs z m b ∷ l) (view-within n ms bs)
+
   pub drop-view : (n : ℕ) (ms : List Mark) (bs : List ℕ) → drop n (view z ms bs) ≡ view z (drop n ms) (drop n bs)
   unfolding view
   drop-view zero ms bs = refl
@@ -73,7 +81,7 @@ module _ (z : Hiding) where
   drop-view (suc n) (m ∷ ms) (b ∷ bs) = drop-view n ms bs
 
   -- bytes that are all zero look the same
-  shown-zero : (m : Mark) → _≡_ {A = ℕ} (shownAs z m 0) 0
+  pub shown-zero : (m : Mark) → _≡_ {A = ℕ} (shownAs z m 0) 0
   shown-zero seen = refl
   shown-zero (secret k j) = hidden-zero (z k j)
 

@@ -1,11 +1,10 @@
 -- Each rule of the walk, on a veiled state: it does the same, and what it comes to is veiled.
-use Prim.Native.Nat.{ℕ, zero, suc, _+_, _-_, min}
-use mathlib.Core.Path.{_≡_, refl, ap, ap₂, sym, _∙_, subst}
-use mathlib.Core.Bool.{Bool, true, false, cond, not, _&&_, _||_}
-use mathlib.Core.List.{List, [], _∷_, _++_}
-use lib.Dec.{eqb, ltb, leb}
-use lib.ListN.{length, take, drop, set}
-use Rattle.lists.specs.Bytes.{byteAt}
+use Prim.Native.Nat.{ℕ, zero, suc, _+_, _-_}
+use mathlib.Core.Path.{_≡_, refl, ap, subst}
+use mathlib.Core.Bool.{true, false, not, _&&_}
+use mathlib.Core.List.{List, [], _∷_}
+use lib.Dec.{eqb}
+use lib.ListN.{length, set}
 use Rattle.lists.specs.Choice.{by-cond}
 use Rattle.model.specs.declared.Descriptor.{Descriptor}
 use Rattle.model.specs.declared.Open.{Open}
@@ -15,9 +14,9 @@ use Rattle.model.specs.declared.Verdict.{Verdict}
 use Rattle.model.specs.declared.Verdict.the-variants.{Passes, Refuses}
 use Rattle.model.specs.Rows.{due}
 use Rattle.model.specs.Table.{descriptorOf, admitOf}
-use Rattle.model.specs.Loads.{State, fileList, withInternal, withTaken, withOpen, withStartup, changed}
+use Rattle.model.specs.Loads.{State, fileList, withInternal, withTaken, withOpen, changed}
 use Rattle.model.specs.Rules
-use Rattle.model.specs.Rules.{Result, went, asked, failed, Rule, thence, judged, isQuery, aloneAtStart, bit1, bit8, challenged, query, ruleB, ruleC, ruleD, ruleE, ruleF, ruleG, startup, startupOk, kept, tableDone, recordDone, described, tableByte, inTable, tableBytes, recordBytes}
+use Rattle.model.specs.Rules.{Result, went, asked, failed, judged, isQuery, aloneAtStart, bit1, bit8, challenged, query, ruleB, ruleC, startup, tableDone, recordDone, described, tableByte, inTable, tableBytes, recordBytes}
 use Rattle.secrecy.specs.View.{Hiding}
 use Rattle.secrecy.specs.Veil.{veilState}
 use Rattle.secrecy.proofs.Veils.{veilResult, veil-cond, veil-thence}

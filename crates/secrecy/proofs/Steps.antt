@@ -1,9 +1,9 @@
 -- "Hiding commutes with a rule", said of a rule that takes bytes and leaves some: from the bytes as they may be seen and the veiled
 -- state it comes to what it came to, veiled, and leaves what it left, as it may be seen.
-use Prim.Native.Nat.{ℕ, zero, suc, _+_, _-_}
-use mathlib.Core.Path.{_≡_, refl, ap, ap₂, sym, _∙_}
-use mathlib.Core.Bool.{Bool, true, false, cond}
-use mathlib.Core.List.{List, [], _∷_, _++_, append-assoc}
+use Prim.Native.Nat.{ℕ}
+use mathlib.Core.Path.{_≡_, refl, ap, _∙_}
+use mathlib.Core.Bool.{true, false}
+use mathlib.Core.List.{List, _++_, append-assoc}
 use lib.ListN.{length, take, drop}
 use Rattle.model.specs.declared.Open.{Open}
 use Rattle.model.specs.declared.Open.the-variants.{Shut, Table, Record}

@@ -1,27 +1,26 @@
 -- Hiding commutes with a record that is played.
-use Prim.Native.Nat.{ℕ, zero, suc, _+_, _-_, _<_}
-use mathlib.Core.Path.{_≡_, refl, ap, ap₂, sym, _∙_, subst}
-use mathlib.Core.Bool.{Bool, true, false, cond, not, _&&_, _||_, and-eq-true-iff, true≢false}
+use Prim.Native.Nat.{ℕ, suc, _+_, _<_}
+use mathlib.Core.Path.{_≡_, refl, ap, sym, _∙_}
+use mathlib.Core.Bool.{Bool, true, false, cond, not, _&&_, true≢false}
 use mathlib.Core.List.{List, [], _∷_, _++_}
-use lib.Dec.{eqb, leb, ltb, lit<}
+use lib.Dec.{eqb, ltb, lit<}
 use lib.ListN.{length, take, drop}
-use borrow.Author.Tests.{eqb-true}
-use Rattle.lists.specs.Bytes.{byteAt, part, allZero}
+use Rattle.lists.specs.Bytes.{byteAt, part}
 use Rattle.lists.specs.Choice.{by-cond}
 use Rattle.model.specs.declared.Open.{Open}
 use Rattle.model.specs.declared.Open.the-variants.{Shut, Table, Record}
 use Rattle.model.specs.declared.Loading.{Loading}
 use Rattle.model.specs.declared.Secret.{Secret}
 use Rattle.model.specs.declared.Card.{Card}
-use Rattle.model.specs.Stored.{Event, eventIn, isKind, paddedZero, areaSize, answerRoom, recordSize}
-use Rattle.model.specs.Events.{Reply, event}
+use Rattle.model.specs.Stored.{Event, eventIn, paddedZero, areaSize, answerRoom, recordSize}
+use Rattle.model.specs.Events.{event}
 use Rattle.model.specs.Sound.{sound, soundWith, secretsOk, pendingFits}
 use Rattle.model.specs.Session.{Turn, refusedBy, replied, turnOf, playOf}
-use Rattle.secrecy.specs.View.{Mark, seens, marksCommand, marksIn, walked, stateIn, Hiding, view, viewRecord, playable, viewPlay}
+use Rattle.secrecy.specs.View.{Mark, seens, marksCommand, marksData, marksIn, walked, stateIn, Hiding, view, viewRecord, playable, viewPlay}
 use Rattle.secrecy.specs.Veil.{veil, veilSecrets, veilLoading, veilTurn}
-use Rattle.secrecy.proofs.Marks.{length-view, take-seen, drop-seen, take-view, drop-view, view-zero}
+use Rattle.secrecy.proofs.Marks.{length-view, take-seen, drop-seen, take-view, view-within, drop-view, view-zero}
 use Rattle.secrecy.proofs.Heads.{byte-kept}
-use Rattle.secrecy.proofs.Events.{veilReply, veil-event, storing, hides-event}
+use Rattle.secrecy.proofs.Events.{veil-event, storing, Walks, walks, played, hides-event}
 
 -- a record that is refused before it is looked into
 not-reached : (area room sound size : Bool) (x1 x2 x6 x3 t u : Turn) → (area && not room && sound && size) ≡ false
@@ -48,50 +47,42 @@ module _ (z : Hiding) where
 
   -- the record of a walked STORE DATA: what is read of its view
   module _ (ms : List Mark) (r : List ℕ) where
-    abbrev v : List ℕ
-    v = view z (seens 4 ++ ms) r
+    abbrev pub v : List ℕ
+    v = view z (seens 4 ++ take (byteAt r 3) ms) r
 
-    first : (i : ℕ) → i < 4 → byteAt v i ≡ byteAt r i
-    first i h = byte-kept 4 i v r (take-seen z 4 ms r) h
+    pub first : (i : ℕ) → i < 4 → byteAt v i ≡ byteAt r i
+    first i h = byte-kept 4 i v r (take-seen z 4 (take (byteAt r 3) ms) r) h
 
-    data-seen : part v 4 (byteAt v 3) ≡ view z ms (part r 4 (byteAt r 3))
-    data-seen = rw (first 3 (lit< tt)) (rw (drop-seen z 4 ms r) (take-view z (byteAt r 3) ms (drop 4 r)))
+    pub data-seen : part v 4 (byteAt v 3) ≡ view z ms (part r 4 (byteAt r 3))
+    data-seen =
+        let n = byteAt r 3 in
+        rw (first 3 (lit< tt)) (rw (drop-seen z 4 (take n ms) r, take-view z n (take n ms) (drop 4 r)) (view-within z n ms (drop 4 r)))
 
-    padded-seen : paddedZero r ≡ true → paddedZero v ≡ true
+    pub padded-seen : paddedZero r ≡ true → paddedZero v ≡ true
     unfolding paddedZero
     padded-seen p =
+        let n = byteAt r 3 in
         rw (first 3 (lit< tt))
-        (rw (drop-view z (4 + byteAt r 3) (seens 4 ++ ms) r, view-zero z (drop (4 + byteAt r 3) (seens 4 ++ ms)) (drop (4 + byteAt r 3) r) p) p)
+        (rw (drop-view z (4 + n) (seens 4 ++ take n ms) r, view-zero z (drop (4 + n) (seens 4 ++ take n ms)) (drop (4 + n) r) p) p)
 
-    event-seen : byteAt r 0 ≡ 2 → eventIn v ≡ storing z (byteAt r 1) (view z ms (part r 4 (byteAt r 3)))
-    event-seen k = rw (first 0 (lit< tt), first 1 (lit< tt), k) (ap (λ (d : List ℕ). storing z (byteAt r 1) d) data-seen)
+    event-seen : byteAt r 0 ≡ 2 → eventIn v ≡ storing (byteAt r 1) (view z ms (part r 4 (byteAt r 3)))
+    event-seen k = rw (first 0 (lit< tt), first 1 (lit< tt), k) (ap (λ (d : List ℕ). storing (byteAt r 1) d) data-seen)
 
-  played : (c : Card) (a r : List ℕ) → byteAt r 0 ≡ 2 → paddedZero r ≡ true → turnOf c a r ≡ replied (event (eventIn r) c a)
-  unfolding turnOf
-  played c a r k p = rw (k, p)
-
-  abbrev dataMarks : Card → List ℕ → List ℕ → List Mark
-  dataMarks c a r = marksCommand (c .chip .capacity) (byteAt r 1) (part r 4 (byteAt r 3)) (stateIn c a)
-
-  turn-hidden : (c : Card) (a r : List ℕ) → (paddedZero r && walked (eventIn r) c) ≡ true
-      → turnOf (veil z c) a (view z (seens 4 ++ dataMarks c a r) r) ≡ veilTurn z (turnOf c a r)
+  turn-hidden : (c : Card) (a r : List ℕ) → Walks r c → turnOf (veil z c) a (view z (seens 4 ++ marksData c a r) r) ≡ veilTurn z (turnOf c a r)
   turn-hidden c a r w =
-      let at-07 = not (eqb (c .loading .internal) 0x5A) || eqb (c .life .gp) 0x07 in
-      let padded-and-walked = and-eq-true-iff (paddedZero r) (walked (eventIn r) c) .0 w in
-      let stored-and-at-07 = and-eq-true-iff (eqb (byteAt r 0) 2 && c .life .selected) at-07 .0 (padded-and-walked .1) in
-      let k = eqb-true (byteAt r 0) 2 (and-eq-true-iff (eqb (byteAt r 0) 2) (c .life .selected) .0 (stored-and-at-07 .0) .0) in
-      let ms = dataMarks c a r in
-      played (veil z c) a (v ms r) (first ms r 0 (lit< tt) ∙ k) (padded-seen ms r (padded-and-walked .0))
-      ∙ ap (λ (e : Event). replied (event e (veil z c) a)) (event-seen ms r k)
-      ∙ ap replied (hides-event z (byteAt r 1) (part r 4 (byteAt r 3)) c a (stored-and-at-07 .1))
-      ∙ sym (ap (veilTurn z) (played c a r k (padded-and-walked .0) ∙ ap (λ (n : ℕ). replied (event (record { kind = n; p1 = byteAt r 1; bytes = part r 4 (byteAt r 3) }) c a)) k))
+      let d = part r 4 (byteAt r 3) in
+      let ms = marksCommand (c .chip .capacity) (byteAt r 1) d (stateIn c a) in
+      played (veil z c) a (v ms r) (first ms r 0 (lit< tt) ∙ w .kind) (padded-seen ms r (w .padded))
+      ∙ ap (λ (e : Event). replied (event e (veil z c) a)) (event-seen ms r (w .kind))
+      ∙ ap replied (hides-event z (byteAt r 1) d c a (w .at-07))
+      ∙ sym (ap (veilTurn z) (played c a r (w .kind) (w .padded) ∙ ap (λ (k : ℕ). replied (event (record { kind = k; p1 = byteAt r 1; bytes = d }) c a)) (w .kind)))
 
   -- THE KEY: the veiled card, given the record as it may be seen, does the same and comes to the same card, veiled
   pub hides-turn : (c : Card) (a r : List ℕ) → turnOf (veil z c) a (viewRecord z c a r) ≡ veilTurn z (turnOf c a r)
   unfolding marksIn
   hides-turn c a r =
       by-cond (λ (ms : List Mark). turnOf (veil z c) a (view z ms r) ≡ veilTurn z (turnOf c a r)) (paddedZero r && walked (eventIn r) c)
-      (λ w. turn-hidden c a r w) (λ w. unfold view in turn-seen c a r w)
+      (λ w. turn-hidden c a r (walks r c w)) (λ w. unfold view in turn-seen c a r w)
 
   -- sound asks of secrets only their lengths
   veil-secretsOk : (k : ℕ) (xs : List Secret) → secretsOk (veilSecrets z k xs) ≡ secretsOk xs

@@ -1,8 +1,8 @@
 -- The veil of a state and of what a rule comes to, and that the single changes of a card keep out of its way.
-use Prim.Native.Nat.{ℕ, zero, suc, _+_, _-_}
-use mathlib.Core.Path.{_≡_, refl, ap, ap₂, sym, _∙_}
+use Prim.Native.Nat.{ℕ, zero, suc, _+_}
+use mathlib.Core.Path.{_≡_, refl, ap}
 use mathlib.Core.Bool.{Bool, true, false, cond}
-use mathlib.Core.List.{List, [], _∷_, _++_}
+use mathlib.Core.List.{List, [], _∷_}
 use native.Mathlib.Nat.{add-zero, add-suc, suc-add, zero-add}
 use lib.ListN.{length, set}
 use Rattle.lists.specs.Bytes.{padded}
@@ -10,7 +10,7 @@ use Rattle.model.specs.declared.Secret.{Secret}
 use Rattle.model.specs.Loads.{State, withSecret, changed}
 use Rattle.model.specs.Rules.{Result, went, asked, failed, Rule, thence}
 use Rattle.secrecy.specs.View.{Hiding}
-use Rattle.secrecy.specs.Veil.{blotted, veilSecret, veilSecrets, veilLoading, veilState}
+use Rattle.secrecy.specs.Veil.{blotted, veilSecret, veilSecrets, veilState}
 use Rattle.secrecy.proofs.Marks.{length-blotted, blotted-append}
 
 -- a secret as it is kept

@@ -1,14 +1,14 @@
 -- Two cards, events and sessions that are alike in all but the hidden bytes of the kept secrets.
 use Prim.Native.Nat.{ℕ, zero, suc}
 use mathlib.Core.Path.{_≡_}
-use mathlib.Core.Bool.{Bool, true, false}
+use mathlib.Core.Bool.{true, false}
 use mathlib.Core.List.{List, [], _∷_}
-use lib.ListN.{length, getD}
+use lib.ListN.{length, getD, take}
 use Rattle.lists.specs.Bytes.{byteAt}
 use Rattle.model.specs.declared.Secret.{Secret}
 use Rattle.model.specs.declared.Card.{Card}
 use Rattle.model.specs.Stored.{noSecret}
-use Rattle.model.specs.Session.{Turn, refusedBy, turnOf, Run}
+use Rattle.model.specs.Session.{Turn, refusedBy, turnOf, playOf, Run, runFrom}
 use Rattle.secrecy.specs.View.{Hiding}
 
 abbrev pub secretOf : Card → ℕ → Secret
@@ -47,6 +47,12 @@ turnAt c a [] k = refusedBy 0 c a
 turnAt c a (r ∷ rs) zero = turnOf c a r
 turnAt c a (r ∷ rs) (suc k) = let t = turnOf c a r in turnAt (t .card) (t .area) rs k
 
+-- the same for events played one by one, with the answer buffer's room
+unfoldable pub playAt : Card → List ℕ → ℕ → List (List ℕ) → ℕ → Turn
+playAt c a room [] k = refusedBy 0 c a
+playAt c a room (r ∷ rs) zero = playOf c a room r
+playAt c a room (r ∷ rs) (suc k) = let t = playOf c a room r in playAt (t .card) (t .area) room rs k
+
 -- the two sessions so far: the words, each file byte, and the card
 pub record AlikeRuns (z : Hiding) (w u : Run) : Type 0 where
   pub words : w .words ≡ u .words
@@ -55,3 +61,9 @@ pub record AlikeRuns (z : Hiding) (w u : Run) : Type 0 where
 
 abbrev pub start : Card → List ℕ → Run
 start c a = record { words = []; card = c; area = a }
+
+-- two sessions, from cards c and d and the file area a: as many events, each alike, and alike after the first k, for each k
+pub record AlikeSessions (z : Hiding) (c d : Card) (a : List ℕ) (x y : List (List ℕ)) : Type 0 where
+  pub count : length x ≡ length y
+  pub events : (k : ℕ) → AlikeTurns z (turnAt c a x k) (turnAt d a y k)
+  pub runs : (k : ℕ) → AlikeRuns z (runFrom (start c a) (take k x)) (runFrom (start d a) (take k y))

@@ -2,3 +2,4 @@
 pub mod View
 pub mod Veil
 pub mod Alike
+pub mod Kept

@@ -1,5 +1,5 @@
 -- A card, and all that an event gives, without the hidden bytes of the kept secrets.
-use Prim.Native.Nat.{ℕ, zero, suc}
+use Prim.Native.Nat.{ℕ, suc}
 use mathlib.Core.Bool.{Bool, true, false, cond}
 use mathlib.Core.List.{List, [], _∷_}
 use Rattle.model.specs.declared.Secret.{Secret}

@@ -4,21 +4,20 @@ use Prim.Native.Nat.{ℕ, zero, suc, _-_}
 use mathlib.Core.Bool.{Bool, true, false, cond, not, _&&_, _||_}
 use mathlib.Core.List.{List, [], _∷_, _++_}
 use lib.Dec.{eqb, ltb, leb}
-use lib.ListN.{length, replicate}
-use Rattle.lists.specs.Bytes.{byteAt, part}
+use lib.ListN.{length, take, drop, replicate}
+use Rattle.lists.specs.Bytes.{byteAt, part, zeros}
 use Rattle.model.specs.declared.Open.{Open}
 use Rattle.model.specs.declared.Open.the-variants.{Shut, Table, Record}
-use Rattle.model.specs.declared.Head.{Head}
 use Rattle.model.specs.declared.Header.{Header}
 use Rattle.model.specs.declared.Header.the-variants.{Torn, Whole}
 use Rattle.model.specs.declared.Card.{Card}
-use Rattle.model.specs.Stored.{Event, eventIn, paddedZero, recordSize, areaSize, answerRoom}
+use Rattle.model.specs.Stored.{chipSize, chipOf, freshCard, Event, eventIn, paddedZero, recordSize, areaSize, answerRoom}
 use Rattle.model.specs.Rows.{rowOf}
 use Rattle.model.specs.Header.{headerOf}
 use Rattle.model.specs.Loads.{State}
 use Rattle.model.specs.Rules.{Result, went, asked, failed, fed, grouping}
 use Rattle.model.specs.Sound.{sound}
-use Rattle.model.specs.Session.{Turn, turnOf, playOf, recordsIn, eventsIn, Session, runOf}
+use Rattle.model.specs.Session.{turnOf, playOf, recordsIn, eventsIn, runOf}
 
 -- What a record's byte is: seen by all, or byte j of secret k. Secret k is row k + 6: '3800' is 0, '4101' to '4104' are 1 to 4.
 pub data Mark : Type 0 where
@@ -76,12 +75,18 @@ walked e c = eqb (e .kind) 2 && c .life .selected && (not (eqb (c .loading .inte
 abbrev pub stateIn : Card → List ℕ → State
 stateIn c a = record { load = c .loading; area = a }
 
+-- a record's data, as far as it goes
+abbrev pub marksData : Card → List ℕ → List ℕ → List Mark
+marksData c a r = take (byteAt r 3) (marksCommand (c .chip .capacity) (byteAt r 1) (part r 4 (byteAt r 3)) (stateIn c a))
+
 -- a record's bytes: kind, P1, P2 and length, then the data's; none of a record that is refused or whose data is not walked
 unfoldable pub marksIn : Card → List ℕ → List ℕ → List Mark
-marksIn c a r =
-    cond (paddedZero r && walked (eventIn r) c)
-    (seens 4 ++ marksCommand (c .chip .capacity) (byteAt r 1) (part r 4 (byteAt r 3)) (stateIn c a))
-    []
+marksIn c a r = cond (paddedZero r && walked (eventIn r) c) (seens 4 ++ marksData c a r) []
+
+-- the records of a session, each at its place in the run
+unfoldable pub marksFrom : Card → List ℕ → List (List ℕ) → List (List Mark)
+marksFrom c a [] = []
+marksFrom c a (r ∷ rs) = let t = turnOf c a r in marksIn c a r ∷ marksFrom (t .card) (t .area) rs
 
 -- Which of the secrets' bytes are hidden. A theorem for each choice says more than one for `every`: it tells the bytes apart.
 abbrev pub Hiding : Type 0
@@ -112,16 +117,16 @@ unfoldable pub viewsFrom : Hiding → Card → List ℕ → List (List ℕ) → 
 viewsFrom z c a [] = []
 viewsFrom z c a (r ∷ rs) = let t = turnOf c a r in viewRecord z c a r ∷ viewsFrom z (t .card) (t .area) rs
 
--- one event's record, and those that `replay` plays: numbers 1, 2, 6 and 3 hide nothing either
+-- one event's record, and those of events played one by one: of a record that number 1, 2, 6 or 3 refuses nothing is hidden either
 unfoldable pub playable : Card → List ℕ → ℕ → List ℕ → Bool
 playable c a room r = eqb (length a) areaSize && not (ltb room answerRoom) && sound c && eqb (length r) recordSize
 
 unfoldable pub viewPlay : Hiding → Card → List ℕ → ℕ → List ℕ → List ℕ
 viewPlay z c a room r = cond (playable c a room r) (viewRecord z c a r) r
 
-unfoldable pub viewPlays : Hiding → Card → List ℕ → List (List ℕ) → List (List ℕ)
-viewPlays z c a [] = []
-viewPlays z c a (r ∷ rs) = let t = playOf c a answerRoom r in viewPlay z c a answerRoom r ∷ viewPlays z (t .card) (t .area) rs
+unfoldable pub viewPlays : Hiding → Card → List ℕ → ℕ → List (List ℕ) → List (List ℕ)
+viewPlays z c a room [] = []
+viewPlays z c a room (r ∷ rs) = let t = playOf c a room r in viewPlay z c a room r ∷ viewPlays z (t .card) (t .area) room rs
 
 -- a session's bytes: nothing is hidden of a session that is refused
 unfoldable pub joined : List (List ℕ) → List ℕ
@@ -131,3 +136,8 @@ joined (r ∷ rs) = r ++ joined rs
 unfoldable pub viewOf : Hiding → Card → List ℕ → ℕ → List ℕ → List ℕ
 viewOf z c a room bytes =
     cond (eqb (runOf c a room bytes .number) 0) (joined (viewsFrom z c a (recordsIn (eventsIn bytes) bytes))) bytes
+
+-- the records that `replay` reads, each as it may be seen
+abbrev pub replayViews : Hiding → List ℕ → List (List ℕ)
+replayViews z input =
+    viewPlays z (freshCard (chipOf (take chipSize input))) (zeros areaSize) answerRoom (recordsIn (eventsIn (drop chipSize input)) (drop chipSize input))

@@ -1,13 +1,12 @@
 -- The single changes that a command makes keep what soundness is inside it.
-use Prim.Native.Nat.{ℕ, zero, suc, _+_, _-_, _*_, _%_, _≤_, _<_, _^_}
-use mathlib.Core.Path.{_≡_, refl, ap, sym, _∙_, subst}
-use mathlib.Core.Bool.{Bool, true, false, cond, not, _&&_, _||_, false≢true}
+use Prim.Native.Nat.{ℕ, zero, suc, _+_, _*_, _%_, _≤_, _<_}
+use mathlib.Core.Path.{_≡_, refl, ap, sym}
+use mathlib.Core.Bool.{Bool, true, false, not, _&&_, _||_}
 use mathlib.Core.List.{List, [], _∷_}
-use lib.Dec.{eqb, ltb, leb}
-use lib.ListN.{length, take, set, length-set}
+use lib.Dec.{eqb, leb}
+use lib.ListN.{take, set}
 use native.Mathlib.Omega.{arith}
-use native.Mathlib.Numerals.{add-one}
-use borrow.Author.Tests.{leb-true, ltb-true, eqb-true, not-true, le-leb, lt-ltb, eq-eqb}
+use borrow.Author.Tests.{leb-true, eqb-true, le-leb, lt-ltb, eq-eqb}
 use Rattle.model.specs.declared.Descriptor.{Descriptor}
 use Rattle.model.specs.declared.Secret.{Secret}
 use Rattle.model.specs.declared.Open.{Open}
@@ -15,13 +14,11 @@ use Rattle.model.specs.declared.Open.the-variants.{Shut, Table, Record}
 use Rattle.model.specs.declared.Spot.{Spot}
 use Rattle.model.specs.declared.Spot.the-variants.{Nowhere, At}
 use Rattle.model.specs.Rows.{taken, withRow, descriptorSize, tableRoom, secretRoom}
-use Rattle.model.specs.Table.{tableLimit, tablePasses, admitOf, passed}
 use Rattle.model.specs.Rules.{tagSpot}
 use Rattle.model.specs.Command.{isShut}
 use Rattle.model.specs.Sound.{tableOpen, secretsOk, tableFits, recordFits}
-use Rattle.soundness.proofs.Tests.{and-l, and-r, and-i, or-l, or-r, or-left}
-use Rattle.soundness.proofs.Within.{table-more}
-use Rattle.soundness.proofs.Taking.{withRow-bound, withRow-keeps, withRow-itself}
+use Rattle.soundness.proofs.Tests.{and-l, and-r, and-i, or-l, or-r}
+use Rattle.soundness.proofs.Taking.{withRow-bound, withRow-keeps}
 use Rattle.soundness.proofs.Inside.{fitsIn, Inside}
 
 -- an open '3100' that fits, as facts
@@ -65,7 +62,8 @@ placed-more false true c z f e = or-l c z (f refl)
 placed-more false false c z f e = or-r c z e
 
 -- a row is taken with no value open
-pub row-taken : {i r : ℕ} {fs : List Descriptor} {n : ℕ} {xs : List Secret} (k : ℕ) → 1 ≤ k → k ≤ 11 → Inside i r Shut fs n xs → Inside i (withRow r k) Shut fs n xs
+pub row-taken : {i r : ℕ} {fs : List Descriptor} {n : ℕ} {xs : List Secret} (k : ℕ) → 1 ≤ k → k ≤ 11
+    → Inside i r Shut fs n xs → Inside i (withRow r k) Shut fs n xs
 row-taken {r} {n} k a b h = record {
   stage = h .stage;
   room = h .room;
@@ -86,7 +84,8 @@ secrets-set (y ∷ ys) (suc j) x b e =
     and-i _ _ (and-l (leb (y .len) secretRoom) (secretsOk ys) e) (secrets-set ys j x b (and-r (leb (y .len) secretRoom) (secretsOk ys) e))
 
 -- a secret of at most 64 bytes is kept
-pub secret-kept : {i r : ℕ} {o : Open} {fs : List Descriptor} {n : ℕ} {xs : List Secret} (j : ℕ) (x : Secret) → x .len ≤ secretRoom → Inside i r o fs n xs → Inside i r o fs n (set xs j x)
+pub secret-kept : {i r : ℕ} {o : Open} {fs : List Descriptor} {n : ℕ} {xs : List Secret} (j : ℕ) (x : Secret) → x .len ≤ secretRoom
+    → Inside i r o fs n xs → Inside i r o fs n (set xs j x)
 secret-kept {xs} j x b h = record {
   stage = h .stage;
   room = h .room;

@@ -1,33 +1,31 @@
 -- EVERY EVENT KEEPS SOUND: from a sound card and a file area of 4,096 bytes to a sound card and such an area.
-use Prim.Native.Nat.{ℕ, _+_, _-_, _≤_, _<_}
-use mathlib.Core.Path.{_≡_, refl, ap, sym, _∙_, subst}
+use Prim.Native.Nat.{ℕ, _+_, _-_}
+use mathlib.Core.Path.{_≡_, refl, sym, _∙_, subst}
 use mathlib.Core.Bool.{Bool, true, false, cond, not, _&&_, _||_, false≢true, true≢false}
-use mathlib.Core.List.{List, [], _∷_}
-use lib.Dec.{eqb, ltb, leb}
+use mathlib.Core.List.{List}
+use lib.Dec.{eqb, leb}
 use lib.ListN.{length, length-replicate}
 use borrow.Author.Tests.{eqb-true, not-true}
-use Rattle.lists.specs.Bytes.{zeros, same}
+use Rattle.lists.specs.Bytes.{zeros}
 use Rattle.lists.specs.Choice.{by-cond}
 use Rattle.model.specs.declared.Life.{Life}
-use Rattle.model.specs.declared.Loading.{Loading}
 use Rattle.model.specs.declared.Card.{Card}
 use Rattle.model.specs.Stored.{Event, areaSize}
 use Rattle.model.specs.Rows.{taken}
-use Rattle.model.specs.Loads.{State, withNoneOpen}
+use Rattle.model.specs.Loads.{State}
 use Rattle.model.specs.Rules.{Result, went, asked, failed}
 use Rattle.model.specs.Command.{command}
-use Rattle.model.specs.Sound.{internalOk, nameOk, selectedOk, sound, soundWith}
-use Rattle.model.specs.Events.{Reply, Names, withLife, withGp, withLoading, locked, says, absent, isName, namesIn, nameLength, installForm, selectableForm, installedAs, installing, makingSelectable, install, select, lock, unlock, deselect, foreign, errs, commanded, storeData, stuck, personalizing, otherwise, event}
-use Rattle.soundness.specs.Parts.{SoundParts}
-use Rattle.soundness.specs.Keeps.{Kept, Ends, Keeps, Good}
-use Rattle.soundness.proofs.Tests.{and-l, and-r, and-i, or-l, or-r}
+use Rattle.model.specs.Sound.{nameOk, selectedOk, sound}
+use Rattle.model.specs.Events.{Reply, Names, withLife, withGp, withLoading, locked, absent, isName, namesIn, installForm, selectableForm, installedAs, installing, makingSelectable, install, select, lock, unlock, deselect, foreign, errs, commanded, storeData, stuck, personalizing, otherwise, event}
+use Rattle.soundness.specs.Keeps.{Kept, Keeps, Good}
+use Rattle.soundness.proofs.Tests.{and-l, and-r, and-i, or-r}
 use Rattle.soundness.proofs.Parts.{sound-parts, sound-of-parts}
 use Rattle.soundness.proofs.Keeps.{command-keeps}
 use Rattle.soundness.proofs.Lives.{LifeOk, LifeOf, life-of, relived, made-selectable, installed, chosen, unchosen, locks, unlocks}
 
 -- what a reply holds
 abbrev pub GoodReply : Reply → Type 0
-GoodReply r = Good (r .card) (r .area)
+GoodReply r = Good areaSize (r .card) (r .area)
 
 -- Locking in '5A'.
 locked-internal : (a b c : Bool) → b ≡ true → (a || ((b || c) && true)) ≡ true
@@ -55,15 +53,15 @@ locked-sound c e g i =
       some = refl;
     })
 
-locked-good : (c : Card) (a : List ℕ) → Good c a → c .life .gp ≡ 0x07 → eqb (c .loading .internal) 0x5A ≡ true → Good (locked c) a
+locked-good : (c : Card) (a : List ℕ) → Good areaSize c a → c .life .gp ≡ 0x07 → eqb (c .loading .internal) 0x5A ≡ true → Good areaSize (locked c) a
 locked-good c a y g i = record { sound = locked-sound c (y .sound) g i; files = y .files; area = y .area }
 
 -- STORE DATA. An error locks in '5A'.
-errs-good : (w : ℕ) (c : Card) (a : List ℕ) → Good c a → c .life .gp ≡ 0x07 → GoodReply (errs w c a)
+errs-good : (w : ℕ) (c : Card) (a : List ℕ) → Good areaSize c a → c .life .gp ≡ 0x07 → GoodReply (errs w c a)
 unfolding errs
-errs-good w c a y g = by-cond (λ (d : Card). Good d a) (eqb (c .loading .internal) 0x5A) (λ e. locked-good c a y g e) (λ e. y)
+errs-good w c a y g = by-cond (λ (d : Card). Good areaSize d a) (eqb (c .loading .internal) 0x5A) (λ e. locked-good c a y g e) (λ e. y)
 
-kept-good : (c : Card) (s : State) → Kept (c .life) areaSize s → Good (withLoading (s .load) c) (s .area)
+kept-good : (c : Card) (s : State) → Kept (c .life) areaSize s → Good areaSize (withLoading (s .load) c) (s .area)
 kept-good c s k = record { sound = k .sound; files = k .files; area = k .area }
 
 commanded-good : (c : Card) (r : Result ℕ) → c .life .gp ≡ 0x07 → Keeps (c .life) areaSize r → GoodReply (commanded c r)
@@ -79,26 +77,26 @@ selected-gp x g i h e = go (eqb g 0x07) refl h
     go true q k = eqb-true g 0x07 q
     go false q k = absurd (true≢false (sym e ∙ not-true x k))
 
-storeData-good : (p1 : ℕ) (d : List ℕ) (c : Card) (a : List ℕ) → Good c a → GoodReply (storeData p1 d c a)
+storeData-good : (p1 : ℕ) (d : List ℕ) (c : Card) (a : List ℕ) → Good areaSize c a → GoodReply (storeData p1 d c a)
 unfolding storeData
 storeData-good p1 d c a y =
     by-cond GoodReply (c .life .selected)
     (λ x. let g : c .life .gp ≡ 0x07 = selected-gp (c .life .selected) (c .life .gp) (c .loading .internal) (life-of (c .life) (c .loading) (y .sound) .selected) x in
-      by-cond GoodReply (eqb (length d) 0) (λ e. errs-good 0x6700 c a y g)
-      (λ e. let s : State = record { load = c .loading; area = a } in
-        commanded-good c (command (c .chip .capacity) p1 d s) g
-        (command-keeps (c .life) areaSize g x (c .chip .capacity) p1 d s (record { sound = y .sound; files = y .files; area = y .area }))))
+    by-cond GoodReply (eqb (length d) 0) (λ e. errs-good 0x6700 c a y g)
+    (λ e. let s : State = record { load = c .loading; area = a } in
+    commanded-good c (command (c .chip .capacity) p1 d s) g
+    (command-keeps (c .life) areaSize g x (c .chip .capacity) p1 d s (record { sound = y .sound; files = y .files; area = y .area }))))
     (λ x. y)
 
 -- The life cycle's events, out of '5A'.
-module _ (c : Card) (a : List ℕ) (y : Good c a) (z : eqb (c .loading .internal) 0x5A ≡ false) where
+module _ (c : Card) (a : List ℕ) (y : Good areaSize c a) (z : eqb (c .loading .internal) 0x5A ≡ false) where
   old : LifeOf (c .life) (c .loading)
   old = life-of (c .life) (c .loading) (y .sound)
 
   at : (g : ℕ) → c .life .gp ≡ g → LifeOk g (c .life .selected) (c .life .namelen) (c .loading .internal) (c .loading .rows)
   at g e = subst (λ (x : ℕ). LifeOk x (c .life .selected) (c .life .namelen) (c .loading .internal) (c .loading .rows)) e old
 
-  living : (f : Life) (b : List ℕ) → length b ≡ areaSize → LifeOf f (c .loading) → Good (withLife f c) b
+  living : (f : Life) (b : List ℕ) → length b ≡ areaSize → LifeOf f (c .loading) → Good areaSize (withLife f c) b
   living f b l k = record { sound = relived (c .life) f (c .loading) (y .sound) z k; files = y .files; area = l }
 
   installing-good : (p1 : ℕ) (n : Names) → GoodReply (installing p1 n c a)
@@ -106,10 +104,10 @@ module _ (c : Card) (a : List ℕ) (y : Good c a) (z : eqb (c .loading .internal
   installing-good p1 n =
       by-cond GoodReply (installForm n)
       (λ e. by-cond GoodReply (absent c)
-        (λ f. living (installedAs p1 n c .life) (zeros areaSize) (length-replicate {A = ℕ} areaSize 0)
-          (installed (c .life .selected) (c .life .namelen) (c .loading .internal) (c .loading .rows) z (n .instanceLen) p1
-            (search (and-l, and-r)) (at 0x00 (eqb-true (c .life .gp) 0x00 f))))
-        (λ f. y))
+      (λ f. living (installedAs p1 n c .life) (zeros areaSize) (length-replicate {A = ℕ} areaSize 0)
+      (installed (c .life .selected) (c .life .namelen) (c .loading .internal) (c .loading .rows) z (n .instanceLen) p1
+      (search (and-l, and-r)) (at 0x00 (eqb-true (c .life .gp) 0x00 f))))
+      (λ f. y))
       (λ e. y)
 
   making-good : (n : Names) → GoodReply (makingSelectable n c a)
@@ -117,10 +115,10 @@ module _ (c : Card) (a : List ℕ) (y : Good c a) (z : eqb (c .loading .internal
   making-good n =
       by-cond GoodReply (selectableForm n)
       (λ e. by-cond GoodReply (absent c || not (isName c (n .name))) (λ f. y)
-        (λ f. by-cond GoodReply (eqb (c .life .gp) 0x03)
-          (λ g. living (withGp 0x07 (c .life .selected) c .life) a (y .area)
-            (made-selectable (c .life .selected) (c .life .namelen) (c .loading .internal) (c .loading .rows) z (at 0x03 (eqb-true (c .life .gp) 0x03 g))))
-          (λ g. y)))
+      (λ f. by-cond GoodReply (eqb (c .life .gp) 0x03)
+      (λ g. living (withGp 0x07 (c .life .selected) c .life) a (y .area)
+      (made-selectable (c .life .selected) (c .life .namelen) (c .loading .internal) (c .loading .rows) z (at 0x03 (eqb-true (c .life .gp) 0x03 g))))
+      (λ g. y)))
       (λ e. y)
 
   install-good : (p1 : ℕ) (d : List ℕ) → GoodReply (install p1 d c a)
@@ -133,10 +131,10 @@ module _ (c : Card) (a : List ℕ) (y : Good c a) (z : eqb (c .loading .internal
   unfolding select
   select-good d =
       by-cond GoodReply (eqb (c .life .gp) 0x07 && isName c d)
-      (λ e. let k : Good (withGp 0x07 true c) a = living (withGp 0x07 true c .life) a (y .area)
-              (chosen (c .life .selected) (c .life .namelen) (c .loading .internal) (c .loading .rows) z
-                (at 0x07 (eqb-true (c .life .gp) 0x07 (and-l (eqb (c .life .gp) 0x07) (isName c d) e)))) in
-        by-cond GoodReply (eqb (c .loading .internal) 0xCC) (λ f. k) (λ f. k))
+      (λ e. let k : Good areaSize (withGp 0x07 true c) a = living (withGp 0x07 true c .life) a (y .area)
+      (chosen (c .life .selected) (c .life .namelen) (c .loading .internal) (c .loading .rows) z
+      (at 0x07 (eqb-true (c .life .gp) 0x07 (and-l (eqb (c .life .gp) 0x07) (isName c d) e)))) in
+      by-cond GoodReply (eqb (c .loading .internal) 0xCC) (λ f. k) (λ f. k))
       (λ e. y)
 
   lock-good : GoodReply (lock c a)
@@ -144,17 +142,17 @@ module _ (c : Card) (a : List ℕ) (y : Good c a) (z : eqb (c .loading .internal
   lock-good =
       by-cond GoodReply (absent c) (λ e. y)
       (λ e. by-cond GoodReply (leb 0x80 (c .life .gp)) (λ f. y)
-        (λ f. living (withGp (c .life .gp + 0x80) false c .life) a (y .area)
-          (locks (c .life .selected) (c .life .namelen) (c .loading .internal) (c .loading .rows) z (c .life .gp) (old .gp) e f old)))
+      (λ f. living (withGp (c .life .gp + 0x80) false c .life) a (y .area)
+      (locks (c .life .selected) (c .life .namelen) (c .loading .internal) (c .loading .rows) z (c .life .gp) (old .gp) e f old)))
 
   unlock-good : GoodReply (unlock c a)
   unfolding unlock
   unlock-good =
       by-cond GoodReply (absent c) (λ e. y)
       (λ e. by-cond GoodReply (leb 0x80 (c .life .gp))
-        (λ f. living (withGp (c .life .gp - 0x80) (c .life .selected) c .life) a (y .area)
-          (unlocks (c .life .selected) (c .life .namelen) (c .loading .internal) (c .loading .rows) z (c .life .gp) (old .gp) f old))
-        (λ f. y))
+      (λ f. living (withGp (c .life .gp - 0x80) (c .life .selected) c .life) a (y .area)
+      (unlocks (c .life .selected) (c .life .namelen) (c .loading .internal) (c .loading .rows) z (c .life .gp) (old .gp) f old))
+      (λ f. y))
 
   deselect-good : GoodReply (deselect c a)
   unfolding deselect
@@ -174,20 +172,20 @@ module _ (c : Card) (a : List ℕ) (y : Good c a) (z : eqb (c .loading .internal
       (λ h. deselect-good))))))
 
 -- In '5A': a reply alone, after a lock or not.
-stuck-good : (e : Event) (c : Card) (a : List ℕ) → Good c a → GoodReply (stuck e c a)
+stuck-good : (e : Event) (c : Card) (a : List ℕ) → Good areaSize c a → GoodReply (stuck e c a)
 unfolding stuck
 stuck-good e c a y =
     by-cond GoodReply (eqb (e .kind) 3) (λ h. by-cond GoodReply (isName c (e .bytes)) (λ k. y) (λ k. y))
     (λ h. by-cond GoodReply (eqb (e .kind) 5 || eqb (e .kind) 6) (λ k. y) (λ k. y))
 
-personalizing-good : (e : Event) (c : Card) (a : List ℕ) → Good c a → eqb (c .loading .internal) 0x5A ≡ true → GoodReply (personalizing e c a)
+personalizing-good : (e : Event) (c : Card) (a : List ℕ) → Good areaSize c a → eqb (c .loading .internal) 0x5A ≡ true → GoodReply (personalizing e c a)
 unfolding personalizing
 personalizing-good e c a y i =
     by-cond GoodReply (eqb (c .life .gp) 0x07)
     (λ g. by-cond GoodReply (eqb (e .kind) 2) (λ h. storeData-good (e .p1) (e .bytes) c a y)
-      (λ h. stuck-good e (locked c) a (locked-good c a y (eqb-true (c .life .gp) 0x07 g) i)))
+    (λ h. stuck-good e (locked c) a (locked-good c a y (eqb-true (c .life .gp) 0x07 g) i)))
     (λ g. stuck-good e c a y)
 
-pub event-good : (e : Event) (c : Card) (a : List ℕ) → Good c a → GoodReply (event e c a)
+pub event-good : (e : Event) (c : Card) (a : List ℕ) → Good areaSize c a → GoodReply (event e c a)
 unfolding event
 event-good e c a y = by-cond GoodReply (eqb (c .loading .internal) 0x5A) (λ i. personalizing-good e c a y i) (λ i. otherwise-good c a y i e)

@@ -1,15 +1,13 @@
 -- Bytes of an open '3100', one by one: after each the card is sound again.
-use Prim.Native.Nat.{ℕ, zero, suc, _+_, _-_, _*_, _%_, _≤_, _<_, _^_}
-use mathlib.Core.Path.{_≡_, refl, ap, sym, _∙_, subst}
-use mathlib.Core.Bool.{Bool, true, false, cond, not, _&&_, _||_, false≢true}
+use Prim.Native.Nat.{ℕ, zero, suc, _+_, _-_, _≤_}
+use mathlib.Core.Path.{_≡_, refl, ap, subst}
+use mathlib.Core.Bool.{true, false, _||_}
 use mathlib.Core.List.{List, [], _∷_}
-use lib.Dec.{eqb, ltb, leb}
+use lib.Dec.{eqb}
 use lib.ListN.{length, take, set, length-set}
 use native.Mathlib.Omega.{arith}
 use native.Mathlib.Nat.{suc-sub-suc, sub-zero}
-use native.Mathlib.Numerals.{add-one}
 use borrow.Author.Tests.{eqb-true, eqb-false, le-leb}
-use Rattle.lists.specs.Bytes.{zeros}
 use Rattle.lists.specs.Choice.{by-cond}
 use Rattle.model.specs.declared.Descriptor.{Descriptor}
 use Rattle.model.specs.declared.Secret.{Secret}
@@ -19,15 +17,15 @@ use Rattle.model.specs.declared.Verdict.{Verdict}
 use Rattle.model.specs.declared.Verdict.the-variants.{Passes, Refuses}
 use Rattle.model.specs.Rows.{taken, withRow, descriptorSize}
 use Rattle.model.specs.Table.{descriptorOf, admitOf, passed}
-use Rattle.model.specs.Loads.{State, fileList, changed, withFile, withOpen}
-use Rattle.model.specs.Rules.{Result, went, asked, failed, thence, tableDone, described, tableByte, inTable, tableBytes}
+use Rattle.model.specs.Loads.{State, fileList, changed, withFile}
+use Rattle.model.specs.Rules.{Result, tableDone, described, tableByte, inTable, tableBytes}
 use Rattle.soundness.specs.Keeps.{Ends}
 use Rattle.soundness.specs.Opened.{TableOpen}
 use Rattle.soundness.proofs.Tests.{or-l, or-r}
 use Rattle.soundness.proofs.Ends.{then-ends}
 use Rattle.soundness.proofs.Within.{table-more}
 use Rattle.soundness.proofs.Opened.{table-facts}
-use Rattle.soundness.proofs.Inside.{Inside, InsideOf, Steady}
+use Rattle.soundness.proofs.Inside.{Inside, Steady}
 use Rattle.soundness.proofs.Taking.{withRow-bound, withRow-itself}
 use Rattle.soundness.proofs.Changes.{open-other, table-fit}
 

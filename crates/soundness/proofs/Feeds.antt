@@ -1,24 +1,24 @@
 -- An open value takes its bytes: sound is kept, and bytes are left over only where nothing is open.
-use Prim.Native.Nat.{ℕ, zero, suc, _+_, _-_, _*_, _%_, _≤_, _<_, _^_}
+use Prim.Native.Nat.{ℕ, zero, suc, _+_, _-_, _≤_}
 use mathlib.Core.Path.{_≡_, refl, ap, sym, _∙_, subst}
-use mathlib.Core.Bool.{Bool, true, false, cond, not, _&&_, _||_, false≢true}
-use mathlib.Core.List.{List, [], _∷_}
-use lib.Dec.{eqb, ltb, leb}
+use mathlib.Core.Bool.{Bool, true}
+use mathlib.Core.List.{List}
+use lib.Dec.{leb}
 use lib.ListN.{length, take, drop, length-take, length-drop}
 use native.Mathlib.Omega.{arith}
 use borrow.Author.Tests.{leb-true, le-leb}
-use Rattle.lists.specs.Over.{overwrite, length-over}
+use Rattle.lists.specs.Over.{length-over}
 use Rattle.model.specs.declared.Open.{Open}
 use Rattle.model.specs.declared.Open.the-variants.{Shut, Table, Record}
 use Rattle.model.specs.declared.Spot.{Spot}
 use Rattle.model.specs.declared.Spot.the-variants.{Nowhere, At}
 use Rattle.model.specs.Loads.{State, fileList}
-use Rattle.model.specs.Rules.{Result, went, asked, failed, thence, tagSpot, recordDone, laid, recordBytes, tableBytes, feeding, fed}
+use Rattle.model.specs.Rules.{Result, went, thence, tagSpot, recordDone, laid, recordBytes, tableBytes, feeding, fed}
 use Rattle.model.specs.Command.{isShut}
 use Rattle.model.specs.Sound.{someMissing}
 use Rattle.soundness.specs.Keeps.{Ends}
 use Rattle.soundness.proofs.Ends.{then-ends}
-use Rattle.soundness.proofs.Inside.{Inside, InsideOf, Steady}
+use Rattle.soundness.proofs.Inside.{InsideOf, Steady}
 use Rattle.soundness.proofs.Changes.{record-goes-on, record-ended}
 use Rattle.soundness.proofs.Feeding.{Misses, Fed, InsideWith, tableBytes-fed}
 
@@ -26,6 +26,10 @@ use Rattle.soundness.proofs.Feeding.{Misses, Fed, InsideWith, tableByte
 pub record Walks (k : ℕ) (left : List ℕ) (s : State) : Type 0 where
   pub steady : Steady k s
   pub shut : 1 ≤ length left → isShut (s .load .pending) ≡ true
+
+-- a rule that reads bytes, whichever way it ends
+abbrev pub Going : ℕ → Result (List ℕ) → Type 0
+Going k r = Ends (λ left t. Walks k left t) (Steady k) r
 
 laid-length : (x : Spot) (written : ℕ) (v area : List ℕ) → length (laid x written v area) ≡ length area
 laid-length Nowhere written v area = refl
@@ -71,7 +75,7 @@ misses-none m (Table held missing) z e h = let g : 1 ≤ missing = leb-true 1 mi
 misses-none m (Record tag written missing) z e h = absurd e
 
 table-walks : (k held missing : ℕ) (bytes : List ℕ) (s : State) → Fed k missing s
-    → Ends (λ left t. Walks k left t) (Steady k) (thence (tableBytes (take missing bytes) s) (λ n. went (drop missing bytes)))
+    → Going k (thence (tableBytes (take missing bytes) s) (λ n. went (drop missing bytes)))
 table-walks k held missing bytes s y =
     let v = take missing bytes in
     let n : length v ≡ _ = length-take missing bytes in
@@ -95,11 +99,12 @@ some-table Shut e = refl
 some-table (Table held missing) e = e
 some-table (Record tag written missing) e = refl
 
-shut-some : (o : Open) → o ≡ Shut → someMissing o ≡ true
+-- nothing open misses nothing
+pub shut-some : (o : Open) → o ≡ Shut → someMissing o ≡ true
 shut-some o e = rw e
 
 feeding-walks : (k : ℕ) (o : Open) (bytes : List ℕ) (s : State) → s .load .pending ≡ o → tableSome o ≡ true → length (s .area) ≡ k → InsideOf (s .load)
-    → Ends (λ left t. Walks k left t) (Steady k) (feeding o bytes s)
+    → Going k (feeding o bytes s)
 feeding-walks k Shut bytes s e b a h = record { steady = record { inside = h; some = shut-some _ e; area = a }; shut = λ l. ap isShut e }
 feeding-walks k (Table held missing) bytes s e b a h =
     table-walks k held missing bytes s (record {
@@ -111,6 +116,6 @@ feeding-walks k (Record tag written missing) bytes s e b a h =
 
 -- bytes for an open value, which is sound but that an 'ssnn' may miss nothing
 pub fed-walks : (k : ℕ) (bytes : List ℕ) (s : State) → tableSome (s .load .pending) ≡ true → length (s .area) ≡ k → InsideOf (s .load)
-    → Ends (λ left t. Walks k left t) (Steady k) (fed bytes s)
+    → Going k (fed bytes s)
 unfolding fed
 fed-walks k bytes s b a h = feeding-walks k (s .load .pending) bytes s refl b a h

@@ -1,42 +1,34 @@
 -- Rules a to h keep sound: a grouping read where nothing is open.
-use Prim.Native.Nat.{ℕ, zero, suc, _+_, _-_, _*_, _%_, _≤_, _<_, _^_, min}
-use mathlib.Core.Path.{_≡_, refl, ap, sym, _∙_, subst}
-use mathlib.Core.Bool.{Bool, true, false, cond, not, _&&_, _||_}
-use mathlib.Core.List.{List, [], _∷_}
-use lib.Dec.{eqb, ltb, leb}
+use Prim.Native.Nat.{ℕ, _-_, _≤_}
+use mathlib.Core.Path.{_≡_, refl, ap, sym, subst}
+use mathlib.Core.Bool.{true, false}
+use mathlib.Core.List.{List}
+use lib.Dec.{eqb, ltb}
 use lib.ListN.{length, take, drop}
 use native.Mathlib.Omega.{arith}
-use borrow.Author.Tests.{leb-true, le-leb, eqb-false, eqb-true}
-use Rattle.lists.specs.Bytes.{byteAt, padded}
+use borrow.Author.Tests.{le-leb}
+use Rattle.lists.specs.Bytes.{padded}
 use Rattle.lists.specs.Choice.{by-cond}
 use Rattle.model.specs.declared.Open.{Open}
 use Rattle.model.specs.declared.Open.the-variants.{Shut, Table, Record}
 use Rattle.model.specs.declared.Head.{Head}
-use Rattle.model.specs.declared.Loading.{Loading}
-use Rattle.model.specs.declared.Verdict.{Verdict}
-use Rattle.model.specs.declared.Verdict.the-variants.{Passes, Refuses}
-use Rattle.model.specs.Rows.{rowAt, rowOf, due, secretRoom}
-use Rattle.model.specs.Header.{headerOf}
-use Rattle.model.specs.Loads.{State, fileList, changed, withInternal, withTaken, withOpen, withSerial, withStartup, withCounter, withSecret}
-use Rattle.model.specs.Rules.{Result, went, asked, failed, Rule, thence, _>>=_, _>>_, judged, unless, does, isQuery, aloneAtStart, bit1, bit8, counterOf, startupOk, challenged, query, ruleA, ruleB, ruleC, dueRow, ruleD, roomOf, ruleE, lengthOk, ruleF, ruleG, startup, kept, openedAs, fed, spanned, whole, ruleH, grouping}
+use Rattle.model.specs.Rows.{rowAt, secretRoom}
+use Rattle.model.specs.Loads.{State, fileList, changed, withTaken, withOpen}
+use Rattle.model.specs.Rules.{Result, went, Rule, _>>_, does, startupOk, startup, kept, openedAs, spanned, whole, ruleH}
 use Rattle.model.specs.Command.{isShut}
-use Rattle.model.specs.Sound.{someMissing}
 use Rattle.soundness.specs.Keeps.{Ends, Ruled}
-use Rattle.soundness.proofs.Ends.{then-ends, judged-then, head-then}
-use Rattle.soundness.proofs.Inside.{Inside, InsideOf, Steady}
-use Rattle.soundness.proofs.Changes.{begun, row-taken, secret-kept, table-begun, record-begun}
+use Rattle.soundness.proofs.Ends.{then-ends}
+use Rattle.soundness.proofs.Inside.{InsideOf, Steady}
+use Rattle.soundness.proofs.Changes.{row-taken, secret-kept, table-begun, record-begun}
 use Rattle.soundness.proofs.Feeding.{InsideWith}
-use Rattle.soundness.proofs.Feeds.{Walks, tableSome, fed-walks, taken-length}
-use Rattle.soundness.proofs.RowFacts.{rowOf-limit, by-span, secret-most, room-most, due-untaken, table-length, record-room, length-most}
+use Rattle.soundness.proofs.Feeds.{Going, Walks, tableSome, fed-walks, shut-some, taken-length}
+use Rattle.soundness.proofs.RowFacts.{by-span, secret-most, room-most, due-untaken, table-length, record-room, length-most}
 
 -- a state with nothing open
 pub record Closed (k : ℕ) (s : State) : Type 0 where
   pub inside : InsideWith Shut s
   pub shut : s .load .pending ≡ Shut
   pub area : length (s .area) ≡ k
-
-shut-some : (o : Open) → o ≡ Shut → someMissing o ≡ true
-shut-some o e = rw e
 
 pub closed-steady : (k : ℕ) (s : State) → Closed k s → Steady k s
 closed-steady k s c = record { inside = subst (λ (o : Open). InsideWith o s) (sym (c .shut)) (c .inside); some = shut-some _ (c .shut); area = c .area }
@@ -82,7 +74,7 @@ kept-closed k capacity row v s a b p h c =
     record { inside = secret-kept (row - 6) (record { bytes = padded 64 v; len = length v }) l (c .inside); shut = c .shut; area = c .area })))
 
 pub whole-walks : (k capacity row : ℕ) (h : Head) (bytes : List ℕ) (s : State) → 1 ≤ row → row ≤ 11 → rowAt row .spans ≡ false → h .len ≤ rowAt row .most
-    → Closed k s → Ends (λ left t. Walks k left t) (Steady k) (whole capacity row h bytes s)
+    → Closed k s → Going k (whole capacity row h bytes s)
 unfolding whole
 whole-walks k capacity row h bytes s a b p l c =
     then-ends (λ (a : ℕ) (t : State). Closed k t) (λ (left : List ℕ) (t : State). Walks k left t) (Steady k)
@@ -90,33 +82,49 @@ whole-walks k capacity row h bytes s a b p l c =
     (kept-closed k capacity row (take (h .len) bytes) s a b p (omega (arith, taken-length (h .len) bytes)) c)
     (λ n t z. closed-walks k (drop (h .len) bytes) (changed (withTaken row) t) (closed-taken k row t a b z))
 
--- h, a value that spans
-abbrev pub Spans : ℕ → ℕ → Head → List ℕ → State → ℕ → Type 0
-Spans k room h bytes s row = Closed k s → Ruled s h row room → Ends (λ left t. Walks k left t) (Steady k) (spanned row h bytes s)
+-- h, a value that spans: the state in which it is just open
+abbrev pub opening : ℕ → Head → State → State
+opening row h s = changed (λ l. withOpen (openedAs row (h .tag) (h .len)) (l .held) l) s
 
-table-spans : (k room : ℕ) (h : Head) (bytes : List ℕ) (s : State) → Spans k room h bytes s 5
-unfolding spanned
-table-spans k room h bytes s c r =
+-- it fits; a '3100' misses something, an 'ssnn' may be empty
+pub record Opening (row : ℕ) (h : Head) (s : State) : Type 0 where
+  pub inside : InsideOf (opening row h s .load)
+  pub some : tableSome (openedAs row (h .tag) (h .len)) ≡ true
+
+abbrev Opens : ℕ → ℕ → Head → State → ℕ → Type 0
+Opens k room h s row = Closed k s → Ruled s h row room → Opening row h s
+
+table-opens : (k room : ℕ) (h : Head) (s : State) → Opens k room h s 5
+table-opens k room h s c r =
     let l = table-length (fileList (s .load)) (h .tag) room (h .len) (r .roomed) (r .fitting) in
-    fed-walks k bytes (changed (λ x. withOpen (Table 0 (h .len)) (x .held) x) s) (le-leb 1 (h .len) (l .0)) (c .area)
-    (table-begun (h .len) (r .personal) (due-untaken (s .load .rows) (s .load .last) (h .tag) (r .rowDue)) (l .1) (l .2) (c .inside))
+    record {
+      inside = table-begun (h .len) (r .personal) (due-untaken (s .load .rows) (s .load .last) (h .tag) (r .rowDue)) (l .1) (l .2) (c .inside);
+      some = le-leb 1 (h .len) (l .0);
+    }
 
-record-spans : (k room : ℕ) (h : Head) (bytes : List ℕ) (s : State) → Spans k room h bytes s 11
-unfolding spanned
-record-spans k room h bytes s c r =
+record-opens : (k room : ℕ) (h : Head) (s : State) → Opens k room h s 11
+record-opens k room h s c r =
     let p = record-room (fileList (s .load)) (h .tag) room (r .roomed) in
-    fed-walks k bytes (changed (λ x. withOpen (Record (h .tag) 0 (h .len)) (x .held) x) s) refl (c .area)
-    (record-begun (h .tag) (h .len) (p .0) room (r .personal) (p .1) (length-most 11 room (h .len) (r .fitting)) (c .inside))
+    record {
+      inside = record-begun (h .tag) (h .len) (p .0) room (r .personal) (p .1) (length-most 11 room (h .len) (r .fitting)) (c .inside);
+      some = refl;
+    }
 
-pub spanned-walks : (k room : ℕ) (h : Head) (bytes : List ℕ) (s : State) (row : ℕ) → rowAt row .spans ≡ true → Spans k room h bytes s row
+pub spans-open : (k room : ℕ) (h : Head) (s : State) (row : ℕ) → rowAt row .spans ≡ true → Opens k room h s row
+spans-open k room h s row e c r = by-span (Opens k room h s) (table-opens k room h s) (record-opens k room h s) row (r .least) (r .most) e c r
+
+pub spanned-walks : (k room : ℕ) (h : Head) (bytes : List ℕ) (s : State) (row : ℕ) → rowAt row .spans ≡ true → Closed k s → Ruled s h row room
+    → Going k (spanned row h bytes s)
+unfolding spanned
 spanned-walks k room h bytes s row e c r =
-    by-span (Spans k room h bytes s) (table-spans k room h bytes s) (record-spans k room h bytes s) row (r .least) (r .most) e c r
+    let o = spans-open k room h s row e c r in
+    fed-walks k bytes (opening row h s) (o .some) (c .area) (o .inside)
 
 pub ruleH-walks : (k capacity row room : ℕ) (h : Head) (bytes : List ℕ) (s : State) → Closed k s → Ruled s h row room
-    → Ends (λ left t. Walks k left t) (Steady k) (ruleH capacity row h bytes s)
+    → Going k (ruleH capacity row h bytes s)
 unfolding ruleH
 ruleH-walks k capacity row room h bytes s c r =
-    by-cond (λ (m : Rule (List ℕ)). Ends (λ left t. Walks k left t) (Steady k) (m s)) (rowAt row .spans)
+    by-cond (λ (m : Rule (List ℕ)). Going k (m s)) (rowAt row .spans)
     (λ e. spanned-walks k room h bytes s row e c r)
     (λ e. whole-walks k capacity row h bytes s (r .least) (r .most) e
     (omega (arith, length-most row room (h .len) (r .fitting), room-most (fileList (s .load)) (h .tag) room row (r .least) (r .most) e (r .roomed))) c)

@@ -1,10 +1,10 @@
 -- Inside a command the card is at '07' and selected. What soundness is there, said of the parts of the loading state that it reads, so
 -- that a change of any other part changes nothing of it.
-use Prim.Native.Nat.{ℕ, _+_, _*_, _≤_, _<_, _^_}
-use mathlib.Core.Path.{_≡_, refl, ap, sym, _∙_}
-use mathlib.Core.Bool.{Bool, true, false, cond, not, _&&_, _||_}
-use mathlib.Core.List.{List, [], _∷_}
-use lib.Dec.{eqb, ltb, leb}
+use Prim.Native.Nat.{ℕ, _≤_, _<_, _^_}
+use mathlib.Core.Path.{_≡_, refl, sym, _∙_}
+use mathlib.Core.Bool.{Bool, true, false, not, _&&_, _||_}
+use mathlib.Core.List.{List}
+use lib.Dec.{eqb}
 use lib.ListN.{length, take}
 use Rattle.model.specs.declared.Descriptor.{Descriptor}
 use Rattle.model.specs.declared.Secret.{Secret}
@@ -15,12 +15,11 @@ use Rattle.model.specs.declared.Loading.{Loading}
 use Rattle.model.specs.Rows.{taken}
 use Rattle.model.specs.Table.{tableLimit, tablePasses}
 use Rattle.model.specs.Loads.{State, fileList}
-use Rattle.model.specs.Rules.{tagSpot}
+use Rattle.model.specs.Rules.{Result, tagSpot}
 use Rattle.model.specs.Command.{isShut}
-use Rattle.model.specs.Sound.{gpOk, internalOk, nameOk, selectedOk, tablePlaced, tableOpen, secretsOk, tableFits, recordFits, pendingFits, someMissing, openOk, soundWith}
-use Rattle.soundness.specs.Parts.{SoundParts}
-use Rattle.soundness.specs.Keeps.{Kept}
-use Rattle.soundness.proofs.Tests.{and-l, and-r, and-i, or-l, or-r, or-left}
+use Rattle.model.specs.Sound.{gpOk, nameOk, selectedOk, tableOpen, secretsOk, tableFits, recordFits, pendingFits, someMissing, openOk}
+use Rattle.soundness.specs.Keeps.{Kept, Ends}
+use Rattle.soundness.proofs.Tests.{and-r, and-i, or-l, or-r, or-left}
 use Rattle.soundness.proofs.Parts.{sound-parts, sound-of-parts}
 
 -- an open value fits: the rows, the number of descriptors, the descriptors
@@ -54,6 +53,10 @@ pub record Steady (n : ℕ) (s : State) : Type 0 where
   pub inside : InsideOf (s .load)
   pub some : someMissing (s .load .pending) ≡ true
   pub area : length (s .area) ≡ n
+
+-- a rule that stays so, whichever way it ends
+abbrev pub Staying : {A : Type 0} → ℕ → Result A → Type 0
+Staying n r = Ends (λ a t. Steady n t) (Steady n) r
 
 -- what a command leaves as it is of the life of a card that takes it
 pub record Personal (f : Life) : Type 0 where

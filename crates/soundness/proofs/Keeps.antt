@@ -2,26 +2,26 @@
 -- '07' and selected: a card that takes a command is.
 use Prim.Native.Nat.{ℕ, _≤_, _-_}
 use mathlib.Core.Path.{_≡_, refl, ap, sym, _∙_, subst}
-use mathlib.Core.Bool.{Bool, true, false}
-use mathlib.Core.List.{List, [], _∷_}
+use mathlib.Core.Bool.{true, false}
+use mathlib.Core.List.{List}
 use lib.ListN.{length}
 use native.Mathlib.Omega.{arith}
 use Rattle.model.specs.declared.Life.{Life}
 use Rattle.model.specs.declared.Head.{Head}
-use Rattle.model.specs.declared.Open.{Open}
-use Rattle.model.specs.declared.Open.the-variants.{Shut, Table, Record}
+use Rattle.model.specs.declared.Open.the-variants.{Shut, Table}
 use Rattle.model.specs.Rows.{rowAt}
-use Rattle.model.specs.Loads.{State, fileList}
-use Rattle.model.specs.Rules.{Result, roomOf, tableBytes, fed, spanned, whole, ruleH, grouping}
+use Rattle.model.specs.Loads.{State, fileList, withOpen}
+use Rattle.model.specs.Rules.{Result, openedAs, tableBytes, fed, spanned, whole, ruleH, grouping}
 use Rattle.model.specs.Command.{isShut, walk, theEnd, command}
-use Rattle.soundness.specs.Keeps.{Kept, Ends, Keeps, Onward, GoesOn, Ruled}
+use Rattle.model.specs.Sound.{pendingFits}
+use Rattle.soundness.specs.Keeps.{Kept, Keeps, Onward, GoesOn, Ruled}
 use Rattle.soundness.proofs.Ends.{ends-weaken}
 use Rattle.soundness.proofs.Parts.{sound-parts}
-use Rattle.soundness.proofs.Inside.{Steady, Personal, steady-of, kept-of}
+use Rattle.soundness.proofs.Inside.{Staying, fits-same, Steady, Personal, steady-of, kept-of}
 use Rattle.soundness.proofs.RowFacts.{room-most, length-most}
 use Rattle.soundness.proofs.Feeding.{Misses, Fed, tableBytes-fed}
-use Rattle.soundness.proofs.Feeds.{Walks, some-table, fed-walks}
-use Rattle.soundness.proofs.Groupings.{Closed, shut-is, closed-steady, steady-closed, whole-walks, spanned-walks, ruleH-walks}
+use Rattle.soundness.proofs.Feeds.{Going, Walks, some-table, fed-walks}
+use Rattle.soundness.proofs.Groupings.{Closed, opening, spans-open, shut-is, steady-closed, whole-walks, spanned-walks, ruleH-walks}
 use Rattle.soundness.proofs.Walks.{grouping-walks, walk-steady, theEnd-steady, command-steady}
 
 -- going on is keeping
@@ -39,10 +39,10 @@ module _ (f : Life) (n : ℕ) (g : f .gp ≡ 0x07) (x : f .selected ≡ true) wh
   closed : (s : State) → Kept f n s → s .load .pending ≡ Shut → Closed n s
   closed s y e = steady-closed n s (steady s y) (ap isShut e)
 
-  keeps : {A : Type 0} (r : Result A) → Personal f → Ends (λ a t. Steady n t) (Steady n) r → Keeps f n r
+  keeps : {A : Type 0} (r : Result A) → Personal f → Staying n r → Keeps f n r
   keeps r p h = ends-weaken (λ a t. Steady n t) (λ a t. Kept f n t) (Steady n) (Kept f n) r (λ a t z. kept-of f n t p z) (λ t z. kept-of f n t p z) h
 
-  goes : (r : Result (List ℕ)) → Personal f → Ends (λ left t. Walks n left t) (Steady n) r → GoesOn f n r
+  goes : (r : Result (List ℕ)) → Personal f → Going n r → GoesOn f n r
   goes r p h =
       ends-weaken (λ left t. Walks n left t) (λ left t. Onward f n left t) (Steady n) (Kept f n) r
       (λ left t z. record { kept = kept-of f n t p (z .steady); shut = λ l. shut-is (t .load .pending) (z .shut l) })
@@ -60,6 +60,12 @@ module _ (f : Life) (n : ℕ) (g : f .gp ≡ 0x07) (x : f .selected ≡ true) wh
   fed-goes bytes s y =
       let z = steady s y in
       goes (fed bytes s) (life s y) (fed-walks n bytes s (some-table (s .load .pending) (z .some)) (z .area) (z .inside))
+
+  -- where rules a to g have passed a value that spans, it fits once it is open, also an empty one, which is closed at once
+  pub opened-fits : (row room : ℕ) (h : Head) (s : State) → Kept f n s → s .load .pending ≡ Shut → Ruled s h row room → rowAt row .spans ≡ true
+      → pendingFits (openedAs row (h .tag) (h .len)) (withOpen (openedAs row (h .tag) (h .len)) (s .load .held) (s .load)) ≡ true
+  opened-fits row room h s y e r p =
+      fits-same (openedAs row (h .tag) (h .len)) (opening row h s .load) ∙ spans-open n room h s row p (closed s y e) r .inside .fits
 
   pub spanned-goes : (row room : ℕ) (h : Head) (bytes : List ℕ) (s : State) → Kept f n s → s .load .pending ≡ Shut → Ruled s h row room
       → rowAt row .spans ≡ true → GoesOn f n (spanned row h bytes s)

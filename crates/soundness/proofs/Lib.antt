@@ -15,3 +15,4 @@ pub mod Walks
 pub mod Keeps
 pub mod Lives
 pub mod Events
+pub mod Sessions

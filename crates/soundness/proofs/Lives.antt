@@ -1,8 +1,8 @@
 -- What the life cycle's events change of a card keeps it sound.
-use Prim.Native.Nat.{ℕ, _+_, _-_, _≤_, _<_, _^_}
-use mathlib.Core.Path.{_≡_, refl, ap, sym, _∙_, subst}
+use Prim.Native.Nat.{ℕ, _+_, _-_}
+use mathlib.Core.Path.{_≡_, refl, sym, _∙_, subst}
 use mathlib.Core.Bool.{Bool, true, false, cond, not, _&&_, _||_, false≢true, true≢false}
-use lib.Dec.{eqb, ltb, leb}
+use lib.Dec.{eqb, leb}
 use borrow.Author.Tests.{eqb-true, not-true}
 use Rattle.lists.specs.Choice.{by-cond}
 use Rattle.model.specs.declared.Open.{Open}
@@ -10,10 +10,9 @@ use Rattle.model.specs.declared.Open.the-variants.{Shut, Table, Record}
 use Rattle.model.specs.declared.Life.{Life}
 use Rattle.model.specs.declared.Loading.{Loading}
 use Rattle.model.specs.Rows.{taken}
-use Rattle.model.specs.Sound.{gpOk, internalOk, nameOk, selectedOk, tablePlaced, tableOpen, openOk, soundWith}
+use Rattle.model.specs.Sound.{gpOk, internalOk, nameOk, selectedOk, tableOpen, openOk, soundWith}
 use Rattle.model.specs.Events.{nameLength}
-use Rattle.soundness.specs.Parts.{SoundParts}
-use Rattle.soundness.proofs.Tests.{and-l, and-r, and-i, or-l, or-r, or-elim}
+use Rattle.soundness.proofs.Tests.{and-r, or-l, or-r, or-elim}
 use Rattle.soundness.proofs.Parts.{sound-parts, sound-of-parts}
 
 -- what sound asks of the life of a card: its GP state, selected, the name's length, beside the internal state and the rows

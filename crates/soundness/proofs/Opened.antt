@@ -1,32 +1,31 @@
 -- What soundness says of an open value: what the code must know where it takes the value's bytes.
-use Prim.Native.Nat.{ℕ, _+_, _*_, _%_, _≤_, _<_}
+use Prim.Native.Nat.{ℕ, _+_, _*_, _%_, _≤_}
 use mathlib.Core.Path.{_≡_, refl, subst}
-use mathlib.Core.Bool.{Bool, true, false, not, _&&_, _||_, false≢true}
-use lib.Dec.{eqb, ltb, leb}
-use lib.ListN.{take}
-use native.Mathlib.Omega.{arith}
+use mathlib.Core.Bool.{true, not, _&&_, false≢true}
 use native.Mathlib.Nat.{le-trans}
 use borrow.Author.Tests.{leb-true, ltb-true, eqb-true, not-true}
 use Rattle.model.specs.declared.Open.{Open}
-use Rattle.model.specs.declared.Open.the-variants.{Shut, Table, Record}
+use Rattle.model.specs.declared.Open.the-variants.{Table, Record}
+use Rattle.model.specs.declared.Life.{Life}
 use Rattle.model.specs.declared.Loading.{Loading}
 use Rattle.model.specs.declared.Spot.{Spot}
 use Rattle.model.specs.declared.Spot.the-variants.{Nowhere, At}
 use Rattle.model.specs.Stored.{areaSize}
 use Rattle.model.specs.Rows.{taken, descriptorSize, tableRoom}
-use Rattle.model.specs.Table.{tablePasses, total}
+use Rattle.model.specs.Table.{tablePasses, total, spotOf}
 use Rattle.model.specs.Loads.{fileList}
 use Rattle.model.specs.Rules.{tagSpot}
-use Rattle.model.specs.Sound.{tableFits, recordFits, pendingFits}
+use Rattle.model.specs.Sound.{tableFits, recordFits, pendingFits, soundWith}
 use Rattle.soundness.specs.Opened.{TableOpen, RecordOpen}
 use Rattle.soundness.proofs.Tests.{and-l, and-r}
+use Rattle.soundness.proofs.Parts.{sound-parts}
 use Rattle.soundness.proofs.Within.{spot-within, total-passes}
 
 pub table-facts : (rows count held missing : ℕ) → (not (taken rows 5) && tableFits count held missing) ≡ true → TableOpen rows count held missing
 table-facts rows count held missing e =
     let n = count * descriptorSize + held + missing in
     record {
-      untaken = not-true (taken rows 5) (search (and-l, and-r));
+      untaken = not-true (taken rows 5) (search and-l);
       fits = leb-true n tableRoom (search (and-l, and-r));
       whole = eqb-true (n % descriptorSize) 0 (search (and-l, and-r));
       part = ltb-true held descriptorSize (search (and-l, and-r));
@@ -54,3 +53,17 @@ pub record-opened : (l : Loading) (tag written missing : ℕ) → l .pending ≡
 record-opened l tag written missing e h p =
     record-fits l tag written missing (tagSpot (fileList l) tag) refl (subst (λ (o : Open). pendingFits o l ≡ true) e h)
     (total-passes (l .files) (l .count) p)
+
+-- the same of a sound state
+pub sound-table : (f : Life) (l : Loading) (held missing : ℕ) → soundWith f l ≡ true → l .pending ≡ Table held missing
+    → TableOpen (l .rows) (l .count) held missing
+sound-table f l held missing s e = table-opened l held missing e (sound-parts f l s .fits)
+
+pub sound-record : (f : Life) (l : Loading) (tag written missing : ℕ) → soundWith f l ≡ true → l .pending ≡ Record tag written missing
+    → RecordOpen l tag written missing
+sound-record f l tag written missing s e = record-opened l tag written missing e (sound-parts f l s .fits) (sound-parts f l s .passes)
+
+-- a record that is shown lies within the file area
+pub sound-spot : (f : Life) (l : Loading) (sfi nn base size : ℕ) → soundWith f l ≡ true → spotOf (fileList l) sfi nn ≡ At base size → base + size ≤ areaSize
+sound-spot f l sfi nn base size s e =
+    le-trans (spot-within (fileList l) sfi nn base size e) (total-passes (l .files) (l .count) (sound-parts f l s .passes))

@@ -1,13 +1,12 @@
 -- Sound is the conjunction of its clauses.
-use Prim.Native.Nat.{ℕ, _≤_, _<_, _^_}
-use mathlib.Core.Path.{_≡_, refl}
-use mathlib.Core.Bool.{Bool, true, false, not, _&&_, _||_}
-use lib.Dec.{eqb, ltb, leb}
+use Prim.Native.Nat.{_^_}
+use mathlib.Core.Path.{_≡_}
+use mathlib.Core.Bool.{true}
 use borrow.Author.Tests.{leb-true, ltb-true, le-leb, lt-ltb}
 use Rattle.model.specs.declared.Life.{Life}
 use Rattle.model.specs.declared.Loading.{Loading}
-use Rattle.model.specs.Table.{tableLimit, tablePasses}
-use Rattle.model.specs.Sound.{gpOk, internalOk, nameOk, selectedOk, descriptorsOk, rowsOk, tablePlaced, secretsOk, openOk, pendingFits, someMissing, soundWith}
+use Rattle.model.specs.Table.{tableLimit}
+use Rattle.model.specs.Sound.{soundWith}
 use Rattle.soundness.specs.Parts.{SoundParts}
 use Rattle.soundness.proofs.Tests.{and-l, and-r, and-i}
 

@@ -1,9 +1,9 @@
 -- What the eleven-row table says of a tag's row, of the rows that span, and of the lengths of those that do not.
-use Prim.Native.Nat.{ℕ, zero, suc, _+_, _-_, _/_, _%_, _≤_, _<_, _^_}
-use mathlib.Core.Path.{_≡_, refl, ap}
-use mathlib.Core.Bool.{Bool, true, false, cond, not, _&&_, _||_, false≢true, true≢false}
+use Prim.Native.Nat.{ℕ, suc, _+_, _/_, _%_, _≤_, _<_}
+use mathlib.Core.Path.{_≡_}
+use mathlib.Core.Bool.{true, false, false≢true, true≢false}
 use mathlib.Core.List.{List, [], _∷_}
-use lib.Dec.{eqb, leb}
+use lib.Dec.{eqb}
 use lib.ListN.{length}
 use native.Mathlib.Omega.{arith}
 use borrow.Author.Tests.{eqb-true, ne-eqb, leb-true}
@@ -12,9 +12,8 @@ use Rattle.model.specs.declared.Descriptor.{Descriptor}
 use Rattle.model.specs.declared.Row.{Row}
 use Rattle.model.specs.declared.Spot.{Spot}
 use Rattle.model.specs.declared.Spot.the-variants.{Nowhere, At}
-use Rattle.model.specs.declared.Verdict.{Verdict}
-use Rattle.model.specs.declared.Verdict.the-variants.{Passes, Refuses}
-use Rattle.model.specs.Rows.{bit, rowTable, rowAt, rowFrom, rowOf, inRow, taken, noneFrom, readyFor, rising, due, tableRoom, descriptorSize, secretRoom}
+use Rattle.model.specs.declared.Verdict.the-variants.{Passes}
+use Rattle.model.specs.Rows.{bit, rowTable, rowAt, rowFrom, rowOf, inRow, taken, noneFrom, readyFor, due, tableRoom, descriptorSize, secretRoom}
 use Rattle.model.specs.Rules.{tagSpot, roomIn, roomOf, lengthOk}
 use Rattle.soundness.proofs.Tests.{and-l, and-r}
 use Rattle.soundness.proofs.Taking.{by-row}

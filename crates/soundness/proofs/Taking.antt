@@ -1,10 +1,9 @@
 -- What taking a row does to the set of rows: it stays below 2 ^ 11, and row 5 stays taken.
-use Prim.Native.Nat.{ℕ, zero, suc, _+_, _-_, _/_, _%_, _≤_, _<_, _^_}
-use mathlib.Core.Path.{_≡_, refl}
-use mathlib.Core.Bool.{Bool, true, false, cond, not, _&&_, _||_}
-use lib.Dec.{eqb}
+use Prim.Native.Nat.{ℕ, zero, suc, _+_, _/_, _%_, _≤_, _<_, _^_}
+use mathlib.Core.Path.{_≡_}
+use mathlib.Core.Bool.{true}
 use native.Mathlib.Omega.{arith}
-use borrow.Author.Tests.{eq-eqb, ne-eqb, eqb-true, eqb-false}
+use borrow.Author.Tests.{eq-eqb, eqb-true, eqb-false}
 use Rattle.lists.specs.Choice.{by-cond}
 use Rattle.model.specs.Rows.{bit, taken, withRow}
 
@@ -29,7 +28,10 @@ Bounded r = (rows : ℕ) → rows < 2 ^ 11 → (rows / bit r % 2 ≡ 1 → ⊥) 
 
 bounded : (r : ℕ) → 1 ≤ r → r ≤ 11 → Bounded r
 bounded =
-    by-row Bounded (λ rows h k. omega arith) (λ rows h k. omega arith) (λ rows h k. omega arith) (λ rows h k. omega arith) (λ rows h k. omega arith) (λ rows h k. omega arith) (λ rows h k. omega arith) (λ rows h k. omega arith) (λ rows h k. omega arith) (λ rows h k. omega arith) (λ rows h k. omega arith)
+    by-row Bounded
+    (λ rows h k. omega arith) (λ rows h k. omega arith) (λ rows h k. omega arith) (λ rows h k. omega arith)
+    (λ rows h k. omega arith) (λ rows h k. omega arith) (λ rows h k. omega arith) (λ rows h k. omega arith)
+    (λ rows h k. omega arith) (λ rows h k. omega arith) (λ rows h k. omega arith)
 
 pub withRow-bound : (r : ℕ) → 1 ≤ r → r ≤ 11 → (rows : ℕ) → rows < 2 ^ 11 → withRow rows r < 2 ^ 11
 unfolding withRow taken
@@ -40,49 +42,39 @@ abbrev Keeps5 : ℕ → Type 0
 Keeps5 r = (rows : ℕ) → (rows / bit r % 2 ≡ 1 → ⊥) → rows / bit 5 % 2 ≡ 1 → (rows + bit r) / bit 5 % 2 ≡ 1
 
 -- a row below 5 that is not taken: there is room for it below row 5's digit
-room-one : (m : ℕ) → m < 16 → (m / 1 % 2 ≡ 1 → ⊥) → m + 1 < 16
-room-one m h k = omega arith
-
-room-two : (m : ℕ) → m < 16 → (m / 2 % 2 ≡ 1 → ⊥) → m + 2 < 16
-room-two m h k = omega arith
-
-room-three : (m : ℕ) → m < 16 → (m / 4 % 2 ≡ 1 → ⊥) → m + 4 < 16
-room-three m h k = omega arith
-
-room-four : (m : ℕ) → m < 16 → (m / 8 % 2 ≡ 1 → ⊥) → m + 8 < 16
-room-four m h k = omega arith
-
 keeps5-one : Keeps5 1
 keeps5-one rows h k =
     let e : rows / 1 % 2 ≡ rows % 16 / 1 % 2 = omega arith in
-    let n : rows % 16 + 1 < 16 = room-one (rows % 16) (omega arith) (omega arith) in
+    let n : rows % 16 + 1 < 16 = omega arith in
     let d : (rows + 1) / 16 ≡ rows / 16 = omega arith in
     rw d k
 
 keeps5-two : Keeps5 2
 keeps5-two rows h k =
     let e : rows / 2 % 2 ≡ rows % 16 / 2 % 2 = omega arith in
-    let n : rows % 16 + 2 < 16 = room-two (rows % 16) (omega arith) (omega arith) in
+    let n : rows % 16 + 2 < 16 = omega arith in
     let d : (rows + 2) / 16 ≡ rows / 16 = omega arith in
     rw d k
 
 keeps5-three : Keeps5 3
 keeps5-three rows h k =
     let e : rows / 4 % 2 ≡ rows % 16 / 4 % 2 = omega arith in
-    let n : rows % 16 + 4 < 16 = room-three (rows % 16) (omega arith) (omega arith) in
+    let n : rows % 16 + 4 < 16 = omega arith in
     let d : (rows + 4) / 16 ≡ rows / 16 = omega arith in
     rw d k
 
 keeps5-four : Keeps5 4
 keeps5-four rows h k =
     let e : rows / 8 % 2 ≡ rows % 16 / 8 % 2 = omega arith in
-    let n : rows % 16 + 8 < 16 = room-four (rows % 16) (omega arith) (omega arith) in
+    let n : rows % 16 + 8 < 16 = omega arith in
     let d : (rows + 8) / 16 ≡ rows / 16 = omega arith in
     rw d k
 
 keeps5 : (r : ℕ) → 1 ≤ r → r ≤ 11 → Keeps5 r
 keeps5 =
-    by-row Keeps5 keeps5-one keeps5-two keeps5-three keeps5-four (λ rows h k. omega arith) (λ rows h k. omega arith) (λ rows h k. omega arith) (λ rows h k. omega arith) (λ rows h k. omega arith) (λ rows h k. omega arith) (λ rows h k. omega arith)
+    by-row Keeps5 keeps5-one keeps5-two keeps5-three keeps5-four
+    (λ rows h k. omega arith) (λ rows h k. omega arith) (λ rows h k. omega arith) (λ rows h k. omega arith)
+    (λ rows h k. omega arith) (λ rows h k. omega arith) (λ rows h k. omega arith)
 
 -- row 5, once taken, stays
 pub withRow-keeps : (r : ℕ) → 1 ≤ r → r ≤ 11 → (rows : ℕ) → taken rows 5 ≡ true → taken (withRow rows r) 5 ≡ true

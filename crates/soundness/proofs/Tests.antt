@@ -1,6 +1,6 @@
 -- What tests joined by "and" and "or" say.
 use mathlib.Core.Path.{_≡_, refl}
-use mathlib.Core.Bool.{Bool, true, false, cond, not, _&&_, _||_}
+use mathlib.Core.Bool.{Bool, true, false, _&&_, _||_}
 
 pub and-l : (a b : Bool) → (a && b) ≡ true → a ≡ true
 and-l true b e = refl

@@ -1,27 +1,26 @@
 -- Rules a to h one after another: a grouping keeps sound, and so does the walk over groupings.
-use Prim.Native.Nat.{ℕ, zero, suc, _+_, _-_, _≤_, _<_}
-use mathlib.Core.Path.{_≡_, refl, ap, sym, _∙_, subst}
+use Prim.Native.Nat.{ℕ, zero, suc, _-_, _≤_}
+use mathlib.Core.Path.{_≡_, refl}
 use mathlib.Core.Bool.{Bool, true, false, cond, not, _&&_, _||_}
 use mathlib.Core.List.{List, [], _∷_}
-use lib.Dec.{eqb, ltb, leb}
-use lib.ListN.{length, take, drop}
+use lib.Dec.{eqb, leb}
+use lib.ListN.{length, drop}
 use native.Mathlib.Omega.{arith}
 use borrow.Author.Tests.{eqb-false}
 use Rattle.lists.specs.Choice.{by-cond}
 use Rattle.model.specs.declared.Head.{Head}
-use Rattle.model.specs.declared.Verdict.{Verdict}
 use Rattle.model.specs.declared.Verdict.the-variants.{Passes, Refuses}
 use Rattle.model.specs.Rows.{rowAt, rowOf, due, mandatoryMissing}
 use Rattle.model.specs.Header.{headerOf}
 use Rattle.model.specs.Loads.{State, fileList, changed, withInternal, withTaken}
-use Rattle.model.specs.Rules.{Result, went, asked, failed, Rule, thence, _>>=_, _>>_, judged, unless, isQuery, aloneAtStart, bit1, bit8, challenged, query, ruleA, ruleB, ruleC, dueRow, ruleD, roomOf, ruleE, lengthOk, ruleF, ruleG, fed, ruleH, grouping}
+use Rattle.model.specs.Rules.{Result, Rule, thence, _>>_, judged, unless, isQuery, aloneAtStart, bit1, bit8, challenged, query, ruleA, ruleB, ruleC, dueRow, ruleD, roomOf, ruleE, lengthOk, ruleF, ruleG, fed, grouping}
 use Rattle.model.specs.Command.{isShut, walk, ready, theEnd, command}
 use Rattle.soundness.specs.Keeps.{Ends}
 use Rattle.soundness.proofs.Tests.{and-r}
 use Rattle.soundness.proofs.Ends.{then-ends, judged-then, head-then}
-use Rattle.soundness.proofs.Inside.{Inside, InsideOf, Steady}
+use Rattle.soundness.proofs.Inside.{Staying, Steady}
 use Rattle.soundness.proofs.Changes.{begun, ended}
-use Rattle.soundness.proofs.Feeds.{Walks, some-table, fed-walks}
+use Rattle.soundness.proofs.Feeds.{Going, Walks, some-table, fed-walks}
 use Rattle.soundness.proofs.RowFacts.{rowOf-limit}
 use Rattle.soundness.proofs.Groupings.{Closed, closed-steady, steady-closed, closed-taken, ruleH-walks}
 
@@ -45,7 +44,7 @@ dueRow-both true b r n e = (cc, cc, cc)
 dueRow-both false true r n e = (refl, refl, cc)
 dueRow-both false false r n e = (refl, cc, cc)
 
-dueRow-passes : (rows last tag n : ℕ) → dueRow rows last tag ≡ Passes n → (1 ≤ n) × (n ≤ 11) × (due rows last n tag ≡ true)
+pub dueRow-passes : (rows last tag n : ℕ) → dueRow rows last tag ≡ Passes n → (1 ≤ n) × (n ≤ 11) × (due rows last n tag ≡ true)
 unfolding dueRow
 dueRow-passes rows last tag n e =
     let p = dueRow-both (eqb (rowOf tag) 0) (due rows last (rowOf tag) tag) (rowOf tag) n e in
@@ -54,7 +53,8 @@ dueRow-passes rows last tag n e =
     (omega arith, omega (arith, rowOf-limit tag), rw q (p .1))
 
 module _ {B : Type 0} (k : ℕ) (R : B → State → Type 0) (s : State) where
-  b-then : (n p1 : ℕ) (bytes : List ℕ) (h : Head) (m : ℕ → Rule B) → Closed k s → Ends R (Steady k) (m 0 s) → Ends R (Steady k) (thence (ruleB n p1 bytes h s) m)
+  b-then : (n p1 : ℕ) (bytes : List ℕ) (h : Head) (m : ℕ → Rule B) → Closed k s
+      → Ends R (Steady k) (m 0 s) → Ends R (Steady k) (thence (ruleB n p1 bytes h s) m)
   unfolding ruleB
   b-then n p1 bytes h m c f =
       by-cond (λ (r : Result ℕ). Ends R (Steady k) (thence r m)) (isQuery (h .tag))
@@ -77,11 +77,13 @@ module _ {B : Type 0} (k : ℕ) (R : B → State → Type 0) (s : State) where
   unfolding ruleE
   e-then row tag m y f = judged-then R (Steady k) (roomOf (fileList (s .load)) row tag) s m y f
 
-  unless-then : (b : Bool) (w : ℕ) (m : ℕ → Rule B) → Steady k s → (b ≡ true → Ends R (Steady k) (m 0 s)) → Ends R (Steady k) (thence (judged (unless b w) s) m)
+  unless-then : (b : Bool) (w : ℕ) (m : ℕ → Rule B) → Steady k s
+      → (b ≡ true → Ends R (Steady k) (m 0 s)) → Ends R (Steady k) (thence (judged (unless b w) s) m)
   unless-then true w m y f = f refl
   unless-then false w m y f = y
 
-  f-then : (row room len : ℕ) (m : ℕ → Rule B) → Steady k s → (lengthOk row room len ≡ true → Ends R (Steady k) (m 0 s)) → Ends R (Steady k) (thence (ruleF row room len s) m)
+  f-then : (row room len : ℕ) (m : ℕ → Rule B) → Steady k s
+      → (lengthOk row room len ≡ true → Ends R (Steady k) (m 0 s)) → Ends R (Steady k) (thence (ruleF row room len s) m)
   unfolding ruleF
   f-then row room len m y f = unless-then (lengthOk row room len) 0x6700 m y f
 
@@ -90,7 +92,7 @@ module _ {B : Type 0} (k : ℕ) (R : B → State → Type 0) (s : State) where
   g-then row len left m y f = unless-then (rowAt row .spans || leb len left) 0x6A80 m y (λ e. f)
 
 -- where nothing is open, a grouping; then bytes are left only where nothing is open
-pub grouping-walks : (k capacity n p1 : ℕ) (bytes : List ℕ) (s : State) → Closed k s → Ends (λ left t. Walks k left t) (Steady k) (grouping capacity n p1 bytes s)
+pub grouping-walks : (k capacity n p1 : ℕ) (bytes : List ℕ) (s : State) → Closed k s → Going k (grouping capacity n p1 bytes s)
 unfolding grouping ruleA
 grouping-walks k capacity n p1 bytes s c =
     let R : List ℕ → State → Type 0 = λ left t. Walks k left t in
@@ -108,7 +110,7 @@ grouping-walks k capacity n p1 bytes s c =
     (record { least = r .0; most = r .1; personal = refl; rowDue = r .2; roomed = e; fitting = l }))))))))
 
 -- groupings end to end
-pub walk-steady : (fuel k capacity n p1 : ℕ) (bytes : List ℕ) (s : State) → Walks k bytes s → Ends (λ a t. Steady k t) (Steady k) (walk fuel capacity n p1 bytes s)
+pub walk-steady : (fuel k capacity n p1 : ℕ) (bytes : List ℕ) (s : State) → Walks k bytes s → Staying k (walk fuel capacity n p1 bytes s)
 unfolding walk
 walk-steady zero k capacity n p1 bytes s w = w .steady
 walk-steady (suc fuel) k capacity n p1 [] s w = w .steady
@@ -119,17 +121,17 @@ walk-steady (suc fuel) k capacity n p1 (b ∷ bs) s w =
     (λ left t z. walk-steady fuel k capacity n p1 left t z)
 
 -- the end: 'A5' only where nothing is open
-pub theEnd-steady : (k p1 : ℕ) (s : State) → Steady k s → Ends (λ a t. Steady k t) (Steady k) (theEnd p1 s)
+pub theEnd-steady : (k p1 : ℕ) (s : State) → Steady k s → Staying k (theEnd p1 s)
 unfolding theEnd ready
 theEnd-steady k p1 s y =
-    by-cond (λ (r : Result ℕ). Ends (λ a t. Steady k t) (Steady k) r) (bit8 p1)
-    (λ e. by-cond (λ (r : Result ℕ). Ends (λ a t. Steady k t) (Steady k) r) (ready s)
+    by-cond (λ (r : Result ℕ). Staying k r) (bit8 p1)
+    (λ e. by-cond (λ (r : Result ℕ). Staying k r) (ready s)
     (λ f. let c = steady-closed k s y (and-r (not (mandatoryMissing (s .load .rows))) (isShut (s .load .pending)) f) in
     closed-steady k (changed (withInternal 0xA5) s) (record { inside = ended (c .inside); shut = c .shut; area = c .area }))
     (λ f. y))
     (λ e. y)
 
-pub command-steady : (k capacity p1 : ℕ) (bytes : List ℕ) (s : State) → Steady k s → Ends (λ a t. Steady k t) (Steady k) (command capacity p1 bytes s)
+pub command-steady : (k capacity p1 : ℕ) (bytes : List ℕ) (s : State) → Steady k s → Staying k (command capacity p1 bytes s)
 unfolding command
 command-steady k capacity p1 bytes s y =
     let R : ℕ → State → Type 0 = λ a t. Steady k t in

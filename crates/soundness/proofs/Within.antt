@@ -1,11 +1,11 @@
 -- Where the records of a file table lie: within their files, and these, end to end, within the file area.
 use Prim.Native.Nat.{ℕ, zero, suc, _+_, _-_, _*_, _≤_, _<_}
-use mathlib.Core.Path.{_≡_, refl, ap, sym, _∙_, subst, ap₂}
-use mathlib.Core.Bool.{Bool, true, false, cond, not, _&&_, _||_}
+use mathlib.Core.Path.{_≡_, refl, _∙_, subst, ap₂}
+use mathlib.Core.Bool.{Bool, true, false, cond, _&&_}
 use mathlib.Core.List.{List, [], _∷_, _++_}
 use native.Mathlib.Omega.{arith}
-use native.Mathlib.Nat.{add-zero, zero-add, le-refl, suc-mul, mul-comm, mul-le-mul-right, suc-sub-suc, sub-zero}
-use lib.Dec.{eqb, ltb, leb}
+use native.Mathlib.Nat.{zero-add, le-refl, suc-mul, mul-comm, mul-le-mul-right, suc-sub-suc, sub-zero}
+use lib.Dec.{eqb, leb}
 use native.Mathlib.Numerals.{add-one}
 use lib.ListN.{length, getD, take, set}
 use lib.Seq.{getD-set-other, getD-set-same, take-set-le, take-suc-set}

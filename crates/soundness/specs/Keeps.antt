@@ -1,7 +1,7 @@
 -- What a command keeps.
 use Prim.Native.Nat.{ℕ, _≤_}
 use mathlib.Core.Path.{_≡_}
-use mathlib.Core.Bool.{Bool, true, false}
+use mathlib.Core.Bool.{true}
 use mathlib.Core.List.{List}
 use lib.Dec.{eqb}
 use lib.ListN.{length}
@@ -10,7 +10,6 @@ use Rattle.model.specs.declared.Card.{Card}
 use Rattle.model.specs.declared.Head.{Head}
 use Rattle.model.specs.declared.Open.the-variants.{Shut}
 use Rattle.model.specs.declared.Verdict.the-variants.{Passes}
-use Rattle.model.specs.Stored.{areaSize}
 use Rattle.model.specs.Rows.{due}
 use Rattle.model.specs.Table.{tableLimit}
 use Rattle.model.specs.Loads.{State, fileList}
@@ -49,8 +48,8 @@ pub record Ruled (s : State) (h : Head) (row room : ℕ) : Type 0 where
   pub roomed : roomOf (fileList (s .load)) row (h .tag) ≡ Passes room
   pub fitting : lengthOk row room (h .len) ≡ true
 
--- a card that a call does not refuse by its state, with its file area. That there are 31 descriptors is the array's own fact.
-pub record Good (c : Card) (a : List ℕ) : Type 0 where
+-- a sound card with a file area of n bytes. That there are 31 descriptors is the array's own fact.
+pub record Good (n : ℕ) (c : Card) (a : List ℕ) : Type 0 where
   pub sound : sound c ≡ true
   pub files : length (c .loading .files) ≡ tableLimit
-  pub area : length a ≡ areaSize
+  pub area : length a ≡ n

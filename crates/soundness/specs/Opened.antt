@@ -1,7 +1,7 @@
 -- What soundness says of an open value.
 use Prim.Native.Nat.{ℕ, _+_, _*_, _%_, _≤_, _<_}
 use mathlib.Core.Path.{_≡_}
-use mathlib.Core.Bool.{Bool, true, false}
+use mathlib.Core.Bool.{false}
 use Rattle.model.specs.declared.Loading.{Loading}
 use Rattle.model.specs.declared.Spot.the-variants.{At}
 use Rattle.model.specs.Stored.{areaSize}

@@ -354,8 +354,10 @@ fn spot_in(d: Descriptor, base: usize, nn: u8) -> Spot
     }
     let size = slices::wide(d.recsize);
     let before = slices::wide(nn - 1);
+    let skipped = before * size;
+    let begin = base + skipped;
     Spot::At {
-        base: base + before * size,
+        base: begin,
         size: size,
     }
 }

@@ -1,21 +1,14 @@
-use Prim.Native.Nat.{ℕ, suc, _+_, _*_, _-_, _≤_, _<_, _/_, _%_}
-use mathlib.Core.Path.{_≡_, refl, ap, sym, _∙_}
-use mathlib.Core.List.{List, [], _∷_, _++_}
-use native.Mathlib.Omega.{arith}
-use native.Mathlib.Numerals.{add-one}
-use lib.ListN.{length, take, drop, set, getD, length-set, length-take, length-drop, length-append}
-use denote.Ref.{now}
-use borrow.Author.Needs.{needs}
+use Rattle.model.specs.Events.{foreign}
 use Rattle.life.proofs.answered_foreign.Statement.{statement}
 use Rattle.life.proofs.answered_foreign.Tie as tie
-use Rattle.life.proofs.answered_foreign.Reads as reads
-use Rattle.life.proofs.answered_foreign.Lts as lts
 
 returns : tie.Need-returns
-returns c = ?
+unfolding foreign
+returns c = λ a. rw (c .if1 .taken)
 
 returns-2 : tie.Need-returns-2
-returns-2 c = ?
+unfolding foreign
+returns-2 c = λ a. rw (c .if1 .left)
 
 pub answered-foreign-spec : {M : Type 1} → statement M
 answered-foreign-spec = tie.close (tie.spec returns returns-2)

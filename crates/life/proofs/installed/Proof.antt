@@ -1,18 +1,9 @@
-use Prim.Native.Nat.{ℕ, suc, _+_, _*_, _-_, _≤_, _<_, _/_, _%_}
-use mathlib.Core.Path.{_≡_, refl, ap, sym, _∙_}
-use mathlib.Core.List.{List, [], _∷_, _++_}
-use native.Mathlib.Omega.{arith}
-use native.Mathlib.Numerals.{add-one}
-use lib.ListN.{length, take, drop, set, getD, length-set, length-take, length-drop, length-append}
-use denote.Ref.{now}
+use mathlib.Core.Path.{sym, _∙_}
 use borrow.Author.Needs.{needs}
+use Rattle.model.specs.Events.{installing}
+use borrow.Author.Tests.{eq-eqb, ne-eqb}
 use Rattle.life.proofs.installed.Statement.{statement}
 use Rattle.life.proofs.installed.Tie as tie
-use Rattle.life.proofs.installed.Reads as reads
-use Rattle.life.proofs.installed.Lts as lts
-use Rattle.life.proofs.is_install_form.Reads as is-install-form-reads
-use Rattle.life.proofs.named.Reads as named-reads
-use Rattle.slices.proofs.clear.Reads as clear-reads
 
 is-install-form-requires : tie.Need-is-install-form-requires
 is-install-form-requires c κs = search needs
@@ -21,19 +12,31 @@ clear-requires : tie.Need-clear-requires
 clear-requires c κs = search needs
 
 named-requires : tie.Need-named-requires
-named-requires c κs = ?
+named-requires c κs =
+    let then = c .before .before .before .before .before .before in
+    sym (then .before .is-install-form .ensures) ∙ then .if1 .taken
 
 same-length : tie.Need-same-length
 same-length c = search needs
 
 returns : tie.Need-returns
-returns c = ?
+unfolding installing
+returns c =
+    let cleared = c .before .before .before in
+    let absent = cleared .before .before in
+    let then = absent .before .before in
+    let s = then .before .before .before .before .before in
+    simp (← then .before .is-install-form .ensures, then .if1 .taken, eq-eqb _ _ (absent .if2 .taken), c .named .ensures, cleared .clear .ensures, s .pre)
 
 returns-2 : tie.Need-returns-2
-returns-2 c = ?
+unfolding installing
+returns-2 c =
+    let then = c .before .before in
+    simp (← then .before .is-install-form .ensures, then .if1 .taken, ne-eqb _ _ (c .if2 .left))
 
 returns-3 : tie.Need-returns-3
-returns-3 c = ?
+unfolding installing
+returns-3 c = simp (← c .before .is-install-form .ensures, c .if1 .left)
 
 pub installed-spec : {M : Type 1} → statement M
 installed-spec =
@@ -46,3 +49,4 @@ installed-spec =
     returns
     returns-2
     returns-3)
+-- t

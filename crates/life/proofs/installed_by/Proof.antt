@@ -1,23 +1,15 @@
-use Prim.Native.Nat.{ℕ, suc, _+_, _*_, _-_, _≤_, _<_, _/_, _%_}
-use mathlib.Core.Path.{_≡_, refl, ap, sym, _∙_}
-use mathlib.Core.List.{List, [], _∷_, _++_}
-use native.Mathlib.Omega.{arith}
-use native.Mathlib.Numerals.{add-one}
-use lib.ListN.{length, take, drop, set, getD, length-set, length-take, length-drop, length-append}
-use denote.Ref.{now}
 use borrow.Author.Needs.{needs}
+use Rattle.model.specs.Events.{install}
+use borrow.Author.Tests.{eq-eqb, ne-eqb}
 use Rattle.life.proofs.installed_by.Statement.{statement}
 use Rattle.life.proofs.installed_by.Tie as tie
-use Rattle.life.proofs.installed_by.Reads as reads
-use Rattle.life.proofs.installed_by.Lts as lts
-use Rattle.life.proofs.installed.Reads as installed-reads
-use Rattle.life.proofs.made_selectable.Reads as made-selectable-reads
 
 made-selectable-requires : tie.Need-made-selectable-requires
 made-selectable-requires c κs = search needs
 
 returns : tie.Need-returns
-returns c = ?
+unfolding install
+returns c = rw (eq-eqb _ 0x08 (c .before .if1 .taken)) (c .made-selectable .ensures _)
 
 installed-requires : tie.Need-installed-requires
 installed-requires c κs = search needs
@@ -26,7 +18,10 @@ same-length : tie.Need-same-length
 same-length c = search needs
 
 returns-2 : tie.Need-returns-2
-returns-2 c = ?
+unfolding install
+returns-2 c =
+    let two = c .before .before .before .before in
+    rw (ne-eqb _ 0x08 (two .before .if1 .left), eq-eqb _ 0x04 (two .if2 .taken)) (c .before .before .installed .ensures)
 
 installed-requires-2 : tie.Need-installed-requires-2
 installed-requires-2 c κs = search needs
@@ -35,10 +30,17 @@ same-length-2 : tie.Need-same-length-2
 same-length-2 c = search needs
 
 returns-3 : tie.Need-returns-3
-returns-3 c = ?
+unfolding install
+returns-3 c =
+    let three = c .before .before .before .before in
+    let two = three .before in
+    simp (ne-eqb _ 0x08 (two .before .if1 .left), ne-eqb _ 0x04 (two .if2 .left), eq-eqb _ 0x0C (three .if3 .taken)) (c .before .before .installed2 .ensures)
 
 returns-4 : tie.Need-returns-4
-returns-4 c = ?
+unfolding install
+returns-4 c =
+    let two = c .before .before in
+    simp (ne-eqb _ 0x08 (two .before .if1 .left), ne-eqb _ 0x04 (two .if2 .left), ne-eqb _ 0x0C (c .before .if3 .left))
 
 pub installed-by-spec : {M : Type 1} → statement M
 installed-by-spec =

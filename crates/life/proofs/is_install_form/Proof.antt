@@ -1,18 +1,8 @@
-use Prim.Native.Nat.{ℕ, suc, _+_, _*_, _-_, _≤_, _<_, _/_, _%_}
-use mathlib.Core.Path.{_≡_, refl, ap, sym, _∙_}
-use mathlib.Core.List.{List, [], _∷_, _++_}
-use native.Mathlib.Omega.{arith}
-use native.Mathlib.Numerals.{add-one}
-use lib.ListN.{length, take, drop, set, getD, length-set, length-take, length-drop, length-append}
-use denote.Ref.{now}
+use mathlib.Core.Path.{sym, _∙_}
 use borrow.Author.Needs.{needs}
+use Rattle.life.proofs.Install.{install-form}
 use Rattle.life.proofs.is_install_form.Statement.{statement}
 use Rattle.life.proofs.is_install_form.Tie as tie
-use Rattle.life.proofs.is_install_form.Reads as reads
-use Rattle.life.proofs.is_install_form.Lts as lts
-use Rattle.life.proofs.name_length.Reads as name-length-reads
-use Rattle.life.proofs.places_in.Reads as places-in-reads
-use Rattle.life.proofs.tail_is.Reads as tail-is-reads
 
 places-in-requires : tie.Need-places-in-requires
 places-in-requires c κs = search needs
@@ -33,16 +23,38 @@ tail-is-requires : tie.Need-tail-is-requires
 tail-is-requires c κs = search needs
 
 returns : tie.Need-returns
-returns c = ?
+returns c =
+    let three = c .before .before .before in
+    let two = three .before .before in
+    let one = two .before .before in
+    let p = one .before in
+    c .tail-is .ensures
+    ∙ sym (install-form _ (p .places-in .result) (p .places-in .ensures .0)
+    ∙ simp (← one .name-length .ensures, two .before .if1 .taken, ← two .name-length2 .ensures, three .before .if2 .taken, ← three .name-length3 .ensures, c .before .before .if3 .taken))
 
 returns-2 : tie.Need-returns-2
-returns-2 c = ?
+returns-2 c =
+    let three = c .before in
+    let two = three .before .before in
+    let one = two .before .before in
+    let p = one .before in
+    sym (install-form _ (p .places-in .result) (p .places-in .ensures .0)
+    ∙ simp (← one .name-length .ensures, two .before .if1 .taken, ← two .name-length2 .ensures, three .before .if2 .taken, ← three .name-length3 .ensures, c .if3 .left))
 
 returns-3 : tie.Need-returns-3
-returns-3 c = ?
+returns-3 c =
+    let two = c .before in
+    let one = two .before .before in
+    let p = one .before in
+    sym (install-form _ (p .places-in .result) (p .places-in .ensures .0)
+    ∙ simp (← one .name-length .ensures, two .before .if1 .taken, ← two .name-length2 .ensures, c .if2 .left))
 
 returns-4 : tie.Need-returns-4
-returns-4 c = ?
+returns-4 c =
+    let one = c .before in
+    let p = one .before in
+    sym (install-form _ (p .places-in .result) (p .places-in .ensures .0)
+    ∙ simp (← one .name-length .ensures, c .if1 .left))
 
 pub is-install-form-spec : {M : Type 1} → statement M
 is-install-form-spec =

@@ -1,24 +1,36 @@
-use Prim.Native.Nat.{ℕ, suc, _+_, _*_, _-_, _≤_, _<_, _/_, _%_}
-use mathlib.Core.Path.{_≡_, refl, ap, sym, _∙_}
-use mathlib.Core.List.{List, [], _∷_, _++_}
+use mathlib.Core.Path.{_≡_, refl}
+use mathlib.Core.List.{List, [], _∷_}
 use native.Mathlib.Omega.{arith}
-use native.Mathlib.Numerals.{add-one}
-use lib.ListN.{length, take, drop, set, getD, length-set, length-take, length-drop, length-append}
-use denote.Ref.{now}
+use lib.ListN.{getD}
 use borrow.Author.Needs.{needs}
+use Rattle.model.specs.declared.Descriptor.{Descriptor}
+use Rattle.model.specs.Stored.{noFile}
+use borrow.Author.Tests.{lt-ltb}
+use Rattle.lists.specs.Choice.{cases}
+use Rattle.model.specs.Events.{invalidated}
 use Rattle.life.proofs.is_invalidated.Statement.{statement}
 use Rattle.life.proofs.is_invalidated.Tie as tie
-use Rattle.life.proofs.is_invalidated.Reads as reads
-use Rattle.life.proofs.is_invalidated.Lts as lts
+
+-- what the language reads past an array's end (never read): no bytes stand in its lists
+abbrev pastEnd : Descriptor
+pastEnd = record { lid = 0; sfi = 0; filetype = 0; eftype = 0; recsize = 0; numrec = 0; ac = []; nkey = []; refsfi = 0; refnum = 0; status = 0 }
+
+df-status : (files : List Descriptor) → getD files 0 pastEnd .status ≡ getD files 0 noFile .status
+df-status [] = refl
+df-status (df ∷ files) = refl
 
 returns : tie.Need-returns
-returns c = ?
+unfolding invalidated
+returns c = search cases
 
 array-copy-out-df : tie.Need-array-copy-out-df
 array-copy-out-df c = search needs
 
 returns-2 : tie.Need-returns-2
-returns-2 c = ?
+unfolding invalidated
+returns-2 c =
+    let a = c .before .before .before .before .before .args .c in
+    rw (df-status (a .loading .files), lt-ltb 0 (a .loading .count) (omega arith))
 
 pub is-invalidated-spec : {M : Type 1} → statement M
 is-invalidated-spec = tie.close (tie.spec returns array-copy-out-df returns-2)

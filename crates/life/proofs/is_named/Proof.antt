@@ -1,22 +1,22 @@
-use Prim.Native.Nat.{ℕ, suc, _+_, _*_, _-_, _≤_, _<_, _/_, _%_}
-use mathlib.Core.Path.{_≡_, refl, ap, sym, _∙_}
-use mathlib.Core.List.{List, [], _∷_, _++_}
+use mathlib.Core.Path.{_≡_, sym}
 use native.Mathlib.Omega.{arith}
-use native.Mathlib.Numerals.{add-one}
-use lib.ListN.{length, take, drop, set, getD, length-set, length-take, length-drop, length-append}
-use denote.Ref.{now}
+use lib.ListN.{length}
 use borrow.Author.Needs.{needs}
+use lib.Seq.{length-take-le}
 use Rattle.life.proofs.is_named.Statement.{statement}
 use Rattle.life.proofs.is_named.Tie as tie
-use Rattle.life.proofs.is_named.Reads as reads
-use Rattle.life.proofs.is_named.Lts as lts
-use Rattle.slices.proofs.same_bytes.Reads as same-bytes-reads
 
 array-share-prefix-name : tie.Need-array-share-prefix-name
-array-share-prefix-name c = ?
+array-share-prefix-name c =
+    let s = c .before .before in
+    let e : length (s .args .life .name) ≡ 16 = search needs in
+    omega arith
 
 slice-aggregate-same-bytes : tie.Need-slice-aggregate-same-bytes
-slice-aggregate-same-bytes c = ?
+slice-aggregate-same-bytes c =
+    let s = c .before .before .before in
+    let e : length (s .args .life .name) ≡ 16 = search needs in
+    sym (length-take-le (s .args .life .namelen) (s .args .life .name) (omega arith))
 
 same-bytes-requires : tie.Need-same-bytes-requires
 same-bytes-requires c κs = search needs

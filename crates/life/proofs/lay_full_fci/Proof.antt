@@ -1,17 +1,29 @@
-use Prim.Native.Nat.{ℕ, suc, _+_, _*_, _-_, _≤_, _<_, _/_, _%_}
-use mathlib.Core.Path.{_≡_, refl, ap, sym, _∙_}
-use mathlib.Core.List.{List, [], _∷_, _++_}
+use Prim.Native.Nat.{_≤_}
+use mathlib.Core.Path.{_≡_, sym}
 use native.Mathlib.Omega.{arith}
-use native.Mathlib.Numerals.{add-one}
-use lib.ListN.{length, take, drop, set, getD, length-set, length-take, length-drop, length-append}
+use lib.ListN.{length}
 use denote.Ref.{now}
 use borrow.Author.Needs.{needs}
+use Rattle.life.specs.Answers.{front}
+use Rattle.life.proofs.Fci.{full-laid, full-parts, full-length, front-length}
 use Rattle.life.proofs.lay_full_fci.Statement.{statement}
 use Rattle.life.proofs.lay_full_fci.Tie as tie
-use Rattle.life.proofs.lay_full_fci.Reads as reads
-use Rattle.life.proofs.lay_full_fci.Lts as lts
-use Rattle.slices.proofs.put_byte.Reads as put-byte-reads
-use Rattle.slices.proofs.put_bytes.Reads as put-bytes-reads
+
+-- the card's arrays have their lengths
+name-there : (s : tie.Start) → s .args .c .life .namelen ≤ length (s .args .c .life .name)
+name-there s = let e : length (s .args .c .life .name) ≡ 16 = search needs in omega arith
+
+serial-long : (s : tie.Start) → length (s .args .c .loading .serial) ≡ 8
+serial-long s = search needs
+
+startup-long : (s : tie.Start) → length (s .args .c .loading .startup) ≡ 7
+startup-long s = search needs
+
+lay-front-requires : tie.Need-lay-front-requires
+lay-front-requires c κs = search needs
+
+add-put-bytes : tie.Need-add-put-bytes
+add-put-bytes c = search needs
 
 slice-aggregate-put-bytes : tie.Need-slice-aggregate-put-bytes
 slice-aggregate-put-bytes c = search needs
@@ -19,109 +31,88 @@ slice-aggregate-put-bytes c = search needs
 put-bytes-requires : tie.Need-put-bytes-requires
 put-bytes-requires c κs = search needs
 
-add-put-byte : tie.Need-add-put-byte
-add-put-byte c = search needs
-
-cast-put-byte : tie.Need-cast-put-byte
-cast-put-byte c = search needs
-
-put-byte-requires : tie.Need-put-byte-requires
-put-byte-requires c κs = search needs
-
-slice-aggregate-put-bytes-2 : tie.Need-slice-aggregate-put-bytes-2
-slice-aggregate-put-bytes-2 c = search needs
-
-put-bytes-requires-2 : tie.Need-put-bytes-requires-2
-put-bytes-requires-2 c κs = search needs
-
-cast-put-byte-2 : tie.Need-cast-put-byte-2
-cast-put-byte-2 c = search needs
-
-put-byte-requires-2 : tie.Need-put-byte-requires-2
-put-byte-requires-2 c κs = search needs
-
-array-share-prefix-name : tie.Need-array-share-prefix-name
-array-share-prefix-name c = ?
-
-slice-aggregate-put-bytes-3 : tie.Need-slice-aggregate-put-bytes-3
-slice-aggregate-put-bytes-3 c = ?
-
-put-bytes-requires-3 : tie.Need-put-bytes-requires-3
-put-bytes-requires-3 c κs = ?
-
-add-put-bytes : tie.Need-add-put-bytes
-add-put-bytes c = search needs
-
-slice-aggregate-put-bytes-4 : tie.Need-slice-aggregate-put-bytes-4
-slice-aggregate-put-bytes-4 c = search needs
-
-put-bytes-requires-4 : tie.Need-put-bytes-requires-4
-put-bytes-requires-4 c κs = search needs
-
 add-put-bytes-2 : tie.Need-add-put-bytes-2
 add-put-bytes-2 c = search needs
 
-slice-aggregate-put-bytes-5 : tie.Need-slice-aggregate-put-bytes-5
-slice-aggregate-put-bytes-5 c = ?
+slice-aggregate-put-bytes-2 : tie.Need-slice-aggregate-put-bytes-2
+slice-aggregate-put-bytes-2 c =
+    let first = c .before .before .before .before in
+    let head = first .before .before .before .before .before in
+    sym (serial-long (head .before .before .before .before .before .before))
 
-put-bytes-requires-5 : tie.Need-put-bytes-requires-5
-put-bytes-requires-5 c κs = ?
+put-bytes-requires-2 : tie.Need-put-bytes-requires-2
+put-bytes-requires-2 c κs =
+    let first = c .before .before .before .before in
+    let head = first .before .before .before .before .before in
+    omega (arith, serial-long (head .before .before .before .before .before .before))
 
 add-put-bytes-3 : tie.Need-add-put-bytes-3
-add-put-bytes-3 c = ?
+add-put-bytes-3 c = search needs
 
-slice-aggregate-put-bytes-6 : tie.Need-slice-aggregate-put-bytes-6
-slice-aggregate-put-bytes-6 c = search needs
+slice-aggregate-put-bytes-3 : tie.Need-slice-aggregate-put-bytes-3
+slice-aggregate-put-bytes-3 c = search needs
 
-put-bytes-requires-6 : tie.Need-put-bytes-requires-6
-put-bytes-requires-6 c κs = ?
+put-bytes-requires-3 : tie.Need-put-bytes-requires-3
+put-bytes-requires-3 c κs = search needs
 
 add-put-bytes-4 : tie.Need-add-put-bytes-4
-add-put-bytes-4 c = ?
+add-put-bytes-4 c = search needs
 
-slice-aggregate-put-bytes-7 : tie.Need-slice-aggregate-put-bytes-7
-slice-aggregate-put-bytes-7 c = ?
+slice-aggregate-put-bytes-4 : tie.Need-slice-aggregate-put-bytes-4
+slice-aggregate-put-bytes-4 c =
+    let third = c .before .before .before .before in
+    let second = third .before .before .before .before .before in
+    let first = second .before .before .before .before .before in
+    let head = first .before .before .before .before .before in
+    sym (startup-long (head .before .before .before .before .before .before))
 
-put-bytes-requires-7 : tie.Need-put-bytes-requires-7
-put-bytes-requires-7 c κs = ?
+put-bytes-requires-4 : tie.Need-put-bytes-requires-4
+put-bytes-requires-4 c κs =
+    let third = c .before .before .before .before in
+    let second = third .before .before .before .before .before in
+    let first = second .before .before .before .before .before in
+    let head = first .before .before .before .before .before in
+    omega (arith, startup-long (head .before .before .before .before .before .before))
 
 add-result : tie.Need-add-result
-add-result c = ?
+add-result c = search needs
 
 same-length : tie.Need-same-length
-same-length c = ?
+same-length c = search needs
 
 returns : tie.Need-returns
-returns c = ?
+returns c =
+    let fourth = c .before .before in
+    let third = fourth .before .before .before .before .before in
+    let second = third .before .before .before .before .before in
+    let first = second .before .before .before .before .before in
+    let head = first .before .before .before .before .before in
+    let s = head .before .before .before .before .before .before in
+    let card = s .args .c in (
+      sym (full-length card (name-there s) (serial-long s) (startup-long s)),
+      rw (full-parts card)
+          (full-laid (now (s .args .answer)) (front 26 (card .life)) (card .loading .serial) (card .loading .startup) (card .life .namelen)
+          (front-length card (name-there s) 26) (serial-long s)
+          (head .lay-front .ensures) (first .put-bytes .ensures) (second .put-bytes2 .ensures) (third .put-bytes3 .ensures) (fourth .put-bytes4 .ensures)),
+    )
 
 pub lay-full-fci-spec : {M : Type 1} → statement M
 lay-full-fci-spec =
     tie.close
     (tie.spec
+    lay-front-requires
+    add-put-bytes
     slice-aggregate-put-bytes
     put-bytes-requires
-    add-put-byte
-    cast-put-byte
-    put-byte-requires
+    add-put-bytes-2
     slice-aggregate-put-bytes-2
     put-bytes-requires-2
-    cast-put-byte-2
-    put-byte-requires-2
-    array-share-prefix-name
+    add-put-bytes-3
     slice-aggregate-put-bytes-3
     put-bytes-requires-3
-    add-put-bytes
+    add-put-bytes-4
     slice-aggregate-put-bytes-4
     put-bytes-requires-4
-    add-put-bytes-2
-    slice-aggregate-put-bytes-5
-    put-bytes-requires-5
-    add-put-bytes-3
-    slice-aggregate-put-bytes-6
-    put-bytes-requires-6
-    add-put-bytes-4
-    slice-aggregate-put-bytes-7
-    put-bytes-requires-7
     add-result
     same-length
     returns)

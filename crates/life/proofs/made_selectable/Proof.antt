@@ -1,24 +1,29 @@
-use Prim.Native.Nat.{ℕ, suc, _+_, _*_, _-_, _≤_, _<_, _/_, _%_}
-use mathlib.Core.Path.{_≡_, refl, ap, sym, _∙_}
-use mathlib.Core.List.{List, [], _∷_, _++_}
-use native.Mathlib.Omega.{arith}
-use native.Mathlib.Numerals.{add-one}
-use lib.ListN.{length, take, drop, set, getD, length-set, length-take, length-drop, length-append}
+use mathlib.Core.Path.{_≡_, sym, _∙_}
 use denote.Ref.{now}
 use borrow.Author.Needs.{needs}
+use Rattle.model.specs.Events.{namesIn, makingSelectable, isName}
+use Rattle.life.proofs.Install.{selectable-ends, named-is}
+use borrow.Author.Tests.{eq-eqb, ne-eqb}
 use Rattle.life.proofs.made_selectable.Statement.{statement}
 use Rattle.life.proofs.made_selectable.Tie as tie
-use Rattle.life.proofs.made_selectable.Reads as reads
-use Rattle.life.proofs.made_selectable.Lts as lts
-use Rattle.life.proofs.is_named.Reads as is-named-reads
-use Rattle.life.proofs.is_selectable_form.Reads as is-selectable-form-reads
-use Rattle.life.proofs.places_in.Reads as places-in-reads
+
+-- what the call of `is_named` says, of the definition
+name-asked : (n : tie.After-is-named)
+    → let s = n .before .before .before .before .before .before .before .before .before in
+    isName (s .args .c) (namesIn (now (s .args .d)) .name) ≡ n .is-named .result
+unfolding isName
+name-asked n =
+    let p = n .before .before .places-in in
+    sym (n .is-named .ensures ∙ rw (named-is _ (p .result) (p .ensures .0)))
 
 is-selectable-form-requires : tie.Need-is-selectable-form-requires
 is-selectable-form-requires c κs = search needs
 
 returns : tie.Need-returns
-returns c = ?
+unfolding makingSelectable
+returns c =
+    let then = c .before .before in
+    λ a. simp (← then .before .is-selectable-form .ensures, then .if1 .taken, eq-eqb _ _ (c .if2 .taken))
 
 places-in-requires : tie.Need-places-in-requires
 places-in-requires c κs = search needs
@@ -30,22 +35,40 @@ part-is-named-start : tie.Need-part-is-named-start
 part-is-named-start c = search needs
 
 part-is-named-end : tie.Need-part-is-named-end
-part-is-named-end c = ?
+part-is-named-end c =
+    let then = c .before .before .before in
+    let s = then .before .before .before .before in
+    selectable-ends (now (s .args .d)) (c .places-in .result) (c .places-in .ensures .0) (sym (then .before .is-selectable-form .ensures) ∙ then .if1 .taken)
 
 is-named-requires : tie.Need-is-named-requires
 is-named-requires c κs = search needs
 
 returns-2 : tie.Need-returns-2
-returns-2 c = ?
+unfolding makingSelectable
+returns-2 c =
+    let three = c .before .before in
+    let two = three .before .before .before .before in
+    let then = two .before .before in
+    λ a. simp (← then .before .is-selectable-form .ensures, then .if1 .taken, ne-eqb _ _ (two .if2 .left), name-asked (three .before), three .if3 .taken, eq-eqb _ _ (c .if4 .taken))
 
 returns-3 : tie.Need-returns-3
-returns-3 c = ?
+unfolding makingSelectable
+returns-3 c =
+    let three = c .before .before in
+    let two = three .before .before .before .before in
+    let then = two .before .before in
+    λ a. simp (← then .before .is-selectable-form .ensures, then .if1 .taken, ne-eqb _ _ (two .if2 .left), name-asked (three .before), three .if3 .taken, ne-eqb _ _ (c .if4 .left))
 
 returns-4 : tie.Need-returns-4
-returns-4 c = ?
+unfolding makingSelectable
+returns-4 c =
+    let two = c .before .before .before .before in
+    let then = two .before .before in
+    λ a. simp (← then .before .is-selectable-form .ensures, then .if1 .taken, ne-eqb _ _ (two .if2 .left), name-asked (c .before), c .if3 .left)
 
 returns-5 : tie.Need-returns-5
-returns-5 c = ?
+unfolding makingSelectable
+returns-5 c = λ a. simp (← c .before .is-selectable-form .ensures, c .if1 .left)
 
 pub made-selectable-spec : {M : Type 1} → statement M
 made-selectable-spec =

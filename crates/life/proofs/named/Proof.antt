@@ -1,17 +1,9 @@
-use Prim.Native.Nat.{ℕ, suc, _+_, _*_, _-_, _≤_, _<_, _/_, _%_}
-use mathlib.Core.Path.{_≡_, refl, ap, sym, _∙_}
-use mathlib.Core.List.{List, [], _∷_, _++_}
-use native.Mathlib.Omega.{arith}
-use native.Mathlib.Numerals.{add-one}
-use lib.ListN.{length, take, drop, set, getD, length-set, length-take, length-drop, length-append}
 use denote.Ref.{now}
 use borrow.Author.Needs.{needs}
+use borrow.Author.Tests.{eq-eqb, ne-eqb}
+use Rattle.life.proofs.Install.{install-ends, install-fits, life-named}
 use Rattle.life.proofs.named.Statement.{statement}
 use Rattle.life.proofs.named.Tie as tie
-use Rattle.life.proofs.named.Reads as reads
-use Rattle.life.proofs.named.Lts as lts
-use Rattle.life.proofs.places_in.Reads as places-in-reads
-use Rattle.slices.proofs.padded16.Reads as padded16-reads
 
 places-in-requires : tie.Need-places-in-requires
 places-in-requires c κs = search needs
@@ -23,16 +15,28 @@ part-padded16-start : tie.Need-part-padded16-start
 part-padded16-start c = search needs
 
 part-padded16-end : tie.Need-part-padded16-end
-part-padded16-end c = ?
+part-padded16-end c =
+    let p = c .places-in in
+    let s = c .before .before in
+    install-ends (now (s .args .d)) (p .result) (p .ensures .0) (s .pre)
 
 padded16-requires : tie.Need-padded16-requires
-padded16-requires c κs = ?
+padded16-requires c κs =
+    let p = c .before .places-in in
+    let s = c .before .before .before in
+    install-fits (now (s .args .d)) (p .result) (p .ensures .0) (s .pre)
 
 returns : tie.Need-returns
-returns c = ?
+returns c =
+    let p = c .before .before .before .places-in in
+    let a = c .before .before .before .before .before .args in
+    life-named (now (a .d)) (p .result) (p .ensures .0) (a .life) (a .p1) 0x03 _ (rw (eq-eqb (a .p1) 0x04 (c .if1 .taken))) (c .before .padded16 .ensures)
 
 returns-2 : tie.Need-returns-2
-returns-2 c = ?
+returns-2 c =
+    let p = c .before .before .before .places-in in
+    let a = c .before .before .before .before .before .args in
+    life-named (now (a .d)) (p .result) (p .ensures .0) (a .life) (a .p1) 0x07 _ (rw (ne-eqb (a .p1) 0x04 (c .if1 .left))) (c .before .padded16 .ensures)
 
 pub named-spec : {M : Type 1} → statement M
 named-spec =

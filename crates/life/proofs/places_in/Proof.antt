@@ -1,17 +1,9 @@
-use Prim.Native.Nat.{ℕ, suc, _+_, _*_, _-_, _≤_, _<_, _/_, _%_}
-use mathlib.Core.Path.{_≡_, refl, ap, sym, _∙_}
-use mathlib.Core.List.{List, [], _∷_, _++_}
+use mathlib.Core.Path.{_∙_}
 use native.Mathlib.Omega.{arith}
-use native.Mathlib.Numerals.{add-one}
-use lib.ListN.{length, take, drop, set, getD, length-set, length-take, length-drop, length-append}
-use denote.Ref.{now}
 use borrow.Author.Needs.{needs}
+use Rattle.life.proofs.Install.{placed-by}
 use Rattle.life.proofs.places_in.Statement.{statement}
 use Rattle.life.proofs.places_in.Tie as tie
-use Rattle.life.proofs.places_in.Reads as reads
-use Rattle.life.proofs.places_in.Lts as lts
-use Rattle.slices.proofs.byte_at.Reads as byte-at-reads
-use Rattle.slices.proofs.wide.Reads as wide-reads
 
 byte-at-requires : tie.Need-byte-at-requires
 byte-at-requires c κs = search needs
@@ -50,7 +42,14 @@ add-t8 : tie.Need-add-t8
 add-t8 c = search needs
 
 returns : tie.Need-returns
-returns c = ?
+returns c =
+    let one = c .before .before .before .before in
+    let two = c .before .before in (
+      placed-by _ (one .wide .ensures .0 ∙ one .before .byte-at .ensures) (two .wide2 .ensures .0 ∙ two .before .byte-at2 .ensures)
+          (c .wide3 .ensures .0 ∙ c .before .byte-at3 .ensures),
+      omega arith,
+      omega arith,
+    )
 
 pub places-in-spec : {M : Type 1} → statement M
 places-in-spec =

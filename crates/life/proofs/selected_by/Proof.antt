@@ -1,22 +1,13 @@
-use Prim.Native.Nat.{ℕ, suc, _+_, _*_, _-_, _≤_, _<_, _/_, _%_}
-use mathlib.Core.Path.{_≡_, refl, ap, sym, _∙_}
-use mathlib.Core.List.{List, [], _∷_, _++_}
-use native.Mathlib.Omega.{arith}
-use native.Mathlib.Numerals.{add-one}
-use lib.ListN.{length, take, drop, set, getD, length-set, length-take, length-drop, length-append}
-use denote.Ref.{now}
 use borrow.Author.Needs.{needs}
+use Rattle.life.specs.Answers.{said, gave}
+use Rattle.model.specs.Events.{select, isName}
+use borrow.Author.Tests.{eq-eqb, ne-eqb}
 use Rattle.life.proofs.selected_by.Statement.{statement}
 use Rattle.life.proofs.selected_by.Tie as tie
-use Rattle.life.proofs.selected_by.Reads as reads
-use Rattle.life.proofs.selected_by.Lts as lts
-use Rattle.life.proofs.is_invalidated.Reads as is-invalidated-reads
-use Rattle.life.proofs.is_named.Reads as is-named-reads
-use Rattle.life.proofs.lay_full_fci.Reads as lay-full-fci-reads
-use Rattle.life.proofs.lay_name_fci.Reads as lay-name-fci-reads
 
 returns : tie.Need-returns
-returns c = ?
+unfolding select
+returns c = λ a. rw (ne-eqb _ 0x07 (c .if1 .taken)) (said _ _ a _)
 
 is-named-requires : tie.Need-is-named-requires
 is-named-requires c κs = search needs
@@ -28,7 +19,14 @@ same-length : tie.Need-same-length
 same-length c = search needs
 
 returns-2 : tie.Need-returns-2
-returns-2 c = ?
+unfolding select isName
+returns-2 c =
+    let laid = c .before .before in
+    let three = laid .before .before in
+    let two = three .before .before in
+    let one = two .before .before in
+    λ a. simp (eq-eqb _ 0x07 (one .if1 .left), ← two .before .is-named .ensures, two .if2 .taken, eq-eqb _ 0xCC (three .if3 .taken))
+    (gave _ _ _ a (laid .lay-name-fci .ensures .0) (laid .lay-name-fci .ensures .1))
 
 lay-full-fci-requires : tie.Need-lay-full-fci-requires
 lay-full-fci-requires c κs = search needs
@@ -40,16 +38,35 @@ same-length-2 : tie.Need-same-length-2
 same-length-2 c = search needs
 
 returns-3 : tie.Need-returns-3
-returns-3 c = ?
+unfolding select isName
+returns-3 c =
+    let asked = c .before in
+    let laid = asked .before .before .before in
+    let three = laid .before .before in
+    let two = three .before .before in
+    let one = two .before .before in
+    λ a. simp (eq-eqb _ 0x07 (one .if1 .left), ← two .before .is-named .ensures, two .if2 .taken, ne-eqb _ 0xCC (three .if3 .left), ← asked .is-invalidated .ensures, c .if4 .taken)
+    (gave _ _ _ a (laid .lay-full-fci .ensures .0) (laid .lay-full-fci .ensures .1))
 
 same-length-3 : tie.Need-same-length-3
 same-length-3 c = search needs
 
 returns-4 : tie.Need-returns-4
-returns-4 c = ?
+unfolding select isName
+returns-4 c =
+    let asked = c .before in
+    let laid = asked .before .before .before in
+    let three = laid .before .before in
+    let two = three .before .before in
+    let one = two .before .before in
+    λ a. simp (eq-eqb _ 0x07 (one .if1 .left), ← two .before .is-named .ensures, two .if2 .taken, ne-eqb _ 0xCC (three .if3 .left), ← asked .is-invalidated .ensures, c .if4 .left)
+    (gave _ _ _ a (laid .lay-full-fci .ensures .0) (laid .lay-full-fci .ensures .1))
 
 returns-5 : tie.Need-returns-5
-returns-5 c = ?
+unfolding select isName
+returns-5 c =
+    let one = c .before .before in
+    λ a. simp (eq-eqb _ 0x07 (one .if1 .left), ← c .before .is-named .ensures, c .if2 .left) (said _ _ a _)
 
 pub selected-by-spec : {M : Type 1} → statement M
 selected-by-spec =

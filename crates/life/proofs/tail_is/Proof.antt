@@ -1,19 +1,18 @@
-use Prim.Native.Nat.{ℕ, suc, _+_, _*_, _-_, _≤_, _<_, _/_, _%_}
-use mathlib.Core.Path.{_≡_, refl, ap, sym, _∙_}
-use mathlib.Core.List.{List, [], _∷_, _++_}
+use Prim.Native.Nat.{_-_}
+use mathlib.Core.Path.{sym, _∙_}
 use native.Mathlib.Omega.{arith}
-use native.Mathlib.Numerals.{add-one}
-use lib.ListN.{length, take, drop, set, getD, length-set, length-take, length-drop, length-append}
+use lib.ListN.{length, drop, length-drop}
 use denote.Ref.{now}
 use borrow.Author.Needs.{needs}
+use Rattle.life.proofs.Install.{no-tail}
+use lib.Seq.{take-all}
 use Rattle.life.proofs.tail_is.Statement.{statement}
 use Rattle.life.proofs.tail_is.Tie as tie
-use Rattle.life.proofs.tail_is.Reads as reads
-use Rattle.life.proofs.tail_is.Lts as lts
-use Rattle.slices.proofs.same_bytes.Reads as same-bytes-reads
 
 returns : tie.Need-returns
-returns c = ?
+returns c =
+    let s = c .before .before .before in
+    sym (no-tail (now (s .args .d)) (now (s .args .fixed)) (s .args .at) (c .if1 .taken) (s .pre))
 
 sub-same-bytes : tie.Need-sub-same-bytes
 sub-same-bytes c = search needs
@@ -28,7 +27,10 @@ same-bytes-requires : tie.Need-same-bytes-requires
 same-bytes-requires c κs = search needs
 
 returns-2 : tie.Need-returns-2
-returns-2 c = ?
+returns-2 c =
+    let s = c .before .before .before .before .before in
+    let e = take-all (length (now (s .args .d)) - s .args .at) (drop (s .args .at) (now (s .args .d))) (simp length-drop (omega arith)) in
+    c .same-bytes .ensures ∙ rw e
 
 pub tail-is-spec : {M : Type 1} → statement M
 tail-is-spec =

@@ -1,24 +1,19 @@
-use Prim.Native.Nat.{ℕ, suc, _+_, _*_, _-_, _≤_, _<_, _/_, _%_}
-use mathlib.Core.Path.{_≡_, refl, ap, sym, _∙_}
-use mathlib.Core.List.{List, [], _∷_, _++_}
-use native.Mathlib.Omega.{arith}
-use native.Mathlib.Numerals.{add-one}
-use lib.ListN.{length, take, drop, set, getD, length-set, length-take, length-drop, length-append}
-use denote.Ref.{now}
-use borrow.Author.Needs.{needs}
+use Rattle.lists.specs.Choice.{cases}
+use Rattle.model.specs.Events.{unlock}
 use Rattle.life.proofs.unlocked_by.Statement.{statement}
 use Rattle.life.proofs.unlocked_by.Tie as tie
-use Rattle.life.proofs.unlocked_by.Reads as reads
-use Rattle.life.proofs.unlocked_by.Lts as lts
 
 returns : tie.Need-returns
-returns c = ?
+unfolding unlock
+returns c = λ a. search cases
 
 returns-2 : tie.Need-returns-2
-returns-2 c = ?
+unfolding unlock
+returns-2 c = λ a. search cases
 
 returns-3 : tie.Need-returns-3
-returns-3 c = ?
+unfolding unlock
+returns-3 c = λ a. search cases
 
 pub unlocked-by-spec : {M : Type 1} → statement M
 unlocked-by-spec = tie.close (tie.spec returns returns-2 returns-3)

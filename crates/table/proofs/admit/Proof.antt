@@ -1,3 +1,5 @@
+use Prim.Native.Nat.{_+_}
+use native.Mathlib.Omega.{arith}
 use borrow.Author.Needs.{needs}
 use Rattle.model.specs.Table.{admitOf}
 use borrow.Author.Tests.{le-leb, lt-leb}
@@ -25,7 +27,7 @@ returns c =
       b .if1 .taken,
       ← c .before .before .total-of .ensures .0,
       ← c .before .size-of .ensures .0,
-      le-leb _ _ (c .if2 .taken),
+      le-leb (c .before .before .total-of .result + c .before .size-of .result) 4096 (omega arith),
     )
 
 returns-2 : tie.Need-returns-2
@@ -37,7 +39,7 @@ returns-2 c =
       b .if1 .taken,
       ← c .before .before .total-of .ensures .0,
       ← c .before .size-of .ensures .0,
-      lt-leb _ _ (c .if2 .left),
+      lt-leb (c .before .before .total-of .result + c .before .size-of .result) 4096 (omega arith),
     )
 
 returns-3 : tie.Need-returns-3

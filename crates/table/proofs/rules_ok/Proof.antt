@@ -1,6 +1,7 @@
 use Prim.Native.Nat.{_≤_}
 use mathlib.Core.Path.{sym, _∙_}
 use lib.ListN.{length}
+use native.Mathlib.Omega.{arith}
 use borrow.Author.Needs.{needs}
 use Rattle.model.specs.Table.{rulesOk}
 use lib.Seq.{length-take-le}
@@ -13,7 +14,7 @@ unfolding rulesOk
 returns c =
     let a = c .before .args in
     let fits : a .count ≤ length (a .files) = search needs in
-    rw (length-take-le _ _ fits, le-ltb (a .count) 31 (c .if1 .taken))
+    rw (length-take-le _ _ fits, le-ltb (a .count) 31 (omega arith))
 
 accesses-ok-requires : tie.Need-accesses-ok-requires
 accesses-ok-requires c κs = search needs
@@ -29,9 +30,9 @@ returns-2 c =
     let fits : a .count ≤ length (a .files) = search needs in
     rw (
       length-take-le _ _ fits,
-      lt-ltb (a .count) 31 (b .before .before .before .if1 .left),
+      lt-ltb (a .count) 31 (omega arith),
       sym (b .accesses-ok .ensures) ∙ c .before .before .if2 .taken,
-      eq-eqb _ _ (c .before .if3 .taken),
+      eq-eqb (a .count) 0 (omega arith),
     )
     (c .df-ok .ensures)
 
@@ -46,9 +47,9 @@ returns-3 c =
     let fits : a .count ≤ length (a .files) = search needs in
     rw (
       length-take-le _ _ fits,
-      lt-ltb (a .count) 31 (b .before .before .before .if1 .left),
+      lt-ltb (a .count) 31 (omega arith),
       sym (b .accesses-ok .ensures) ∙ c .before .before .if2 .taken,
-      ne-eqb _ _ (c .before .if3 .left),
+      ne-eqb (a .count) 0 (c .before .if3 .left),
     )
     (c .ef-ok .ensures)
 
@@ -58,7 +59,7 @@ returns-4 c =
     let b = c .before in
     let a = b .before .before .before .before .args in
     let fits : a .count ≤ length (a .files) = search needs in
-    rw (length-take-le _ _ fits, lt-ltb (a .count) 31 (b .before .before .before .if1 .left), sym (b .accesses-ok .ensures) ∙ c .if2 .left)
+    rw (length-take-le _ _ fits, lt-ltb (a .count) 31 (omega arith), sym (b .accesses-ok .ensures) ∙ c .if2 .left)
 
 pub rules-ok-spec : {M : Type 1} → statement M
 rules-ok-spec =

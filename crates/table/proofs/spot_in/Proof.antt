@@ -29,11 +29,11 @@ wide-requires c κs = search needs
 wide-requires-2 : tie.Need-wide-requires-2
 wide-requires-2 c κs = search needs
 
-mul-t10 : tie.Need-mul-t10
-mul-t10 c = omega (arith, bytes-product (c .wide2 .ensures .1) (c .before .wide .ensures .1))
+mul-skipped : tie.Need-mul-skipped
+mul-skipped c = omega (arith, bytes-product (c .wide2 .ensures .1) (c .before .wide .ensures .1))
 
-add-t11 : tie.Need-add-t11
-add-t11 c = omega (arith, bytes-product (c .wide2 .ensures .1) (c .before .wide .ensures .1))
+add-begin : tie.Need-add-begin
+add-begin c = omega (arith, bytes-product (c .wide2 .ensures .1) (c .before .wide .ensures .1))
 
 returns-6 : tie.Need-returns-6
 returns-6 c = rw (c .wide2 .ensures .0, c .before .wide .ensures .0) (search cases)
@@ -50,6 +50,6 @@ spot-in-spec =
     returns-5
     wide-requires
     wide-requires-2
-    mul-t10
-    add-t11
+    mul-skipped
+    add-begin
     returns-6)

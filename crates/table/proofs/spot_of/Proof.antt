@@ -18,11 +18,11 @@ abbrev μ-loop : tie.MeasureT-loop
 
 returns : tie.Need-returns Inv-loop μ-loop
 unfolding spotOf
-returns c = rw (eq-eqb _ _ (c .if1 .taken))
+returns c = rw (eq-eqb (c .before .args .sfi) 0 (omega arith))
 
 loop-holds : tie.Need-loop-holds Inv-loop μ-loop
 unfolding spotOf
-loop-holds c = (omega arith, omega arith, rw (ne-eqb _ _ (c .if1 .left)))
+loop-holds c = (omega arith, omega arith, rw (ne-eqb (c .before .args .sfi) 0 (c .if1 .left)))
 
 mul-d : tie.Need-mul-d Inv-loop μ-loop
 mul-d c = search needs
@@ -57,7 +57,8 @@ loop-again c =
     let l = c .before .before .before .before .before .loop in
     let a = c .before .before .before .before .before .before .before .args in
     let fits : a .count ≤ length (a .t1) = search needs in
-    (omega arith, omega arith, spot-more (a .t1) (a .count) fits (l .i) (l .base) (a .sfi) (a .nn) (c .size-of .result) (omega arith) (c .size-of .ensures .0) (c .before .if2 .left) (l .inv .2))
+    let more = spot-more (a .t1) (a .count) fits (l .i) (l .base) (a .sfi) (a .nn) (c .size-of .result) (omega arith) in
+    (omega arith, omega arith, more (c .size-of .ensures .0) (c .before .if2 .left) (l .inv .2))
 
 returns-3 : tie.Need-returns-3 Inv-loop μ-loop
 returns-3 c =

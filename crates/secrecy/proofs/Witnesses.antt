@@ -1,0 +1,103 @@
+-- Witnesses, computed: a passed secret's bytes are hidden, and only they; and for each check that a secret's grouping can fail, a record
+-- with a secret's bytes that the view leaves as they are.
+use Prim.Native.Nat.{ℕ}
+use mathlib.Core.Bool.{Bool, true, false, _&&_}
+use mathlib.Core.List.{List, [], _∷_, _++_}
+use lib.Dec.{T}
+use lib.ListN.{replicate}
+use Rattle.lists.specs.Bytes.{same, zeros}
+use Rattle.model.specs.Stored.{Event, recordOf}
+use Rattle.model.proofs.Computed.{computed}
+use Rattle.model.proofs.Scenes.{Bytes, event, install, select, command, serial, startup, counter, key, table, df, linear, begun, asked, loaded, turns, endOf}
+use Rattle.secrecy.specs.View.{every, secretMarks, marksWalk, marksCommand, marksIn, view, viewRecord}
+
+-- a record that comes after a session of a fresh card of capacity 10, and what may be seen of it
+pub record Case : Type 0 where
+  pub before : List Event
+  pub given : Bytes
+  pub shown : Bytes
+
+-- the view hides these bytes of a command's data, so that it looks like that
+abbrev hidden : List Event → Bytes → Bytes → Case
+hidden es d v = record { before = es; given = recordOf (command 0x00 d); shown = recordOf (command 0x00 v) }
+
+-- the view leaves the record as it is
+abbrev left : List Event → Bytes → Case
+left es r = record { before = es; given = r; shown = r }
+
+-- '3800' or '410n' with its value hidden
+abbrev blank : ℕ → ℕ → ℕ → Bytes
+blank hi lo n = hi ∷ lo ∷ n ∷ zeros n
+
+-- all before '3800', in a command of its own; and with '3800'
+abbrev toSecrets : Bytes
+toSecrets = serial ++ startup 10 ++ table (df 0 ++ linear)
+
+abbrev due38 : List Event
+due38 = asked (command 0x00 toSecrets ∷ [])
+
+abbrev due41 : List Event
+due41 = asked (command 0x00 (toSecrets ++ key 0x38 0x00 16) ∷ [])
+
+abbrev secretData : Bytes
+secretData = key 0x41 0x01 5
+
+abbrev stores : Bytes → Bytes
+stores d = recordOf (command 0x00 d)
+
+unfoldable pub cases : List Case
+cases =
+    -- hidden: the value bytes, and neither the header nor a neighbour
+    hidden due38 (key 0x38 0x00 16) (blank 0x38 0x00 16)
+    ∷ hidden due41 (key 0x41 0x01 1) (blank 0x41 0x01 1)
+    ∷ hidden due41 (key 0x41 0x01 64) (blank 0x41 0x01 64)
+    ∷ hidden due41 (key 0x41 0x01 5 ++ key 0x41 0x02 6) (blank 0x41 0x01 5 ++ blank 0x41 0x02 6)
+    -- the long form of the length
+    ∷ hidden due41 (0x41 ∷ 0x01 ∷ 0xFF ∷ 0x00 ∷ 0x03 ∷ 0x5C ∷ 0x5C ∷ 0x5C ∷ []) (0x41 ∷ 0x01 ∷ 0xFF ∷ 0x00 ∷ 0x03 ∷ 0 ∷ 0 ∷ 0 ∷ [])
+    -- all in one command, with the optional '4104', and a record's bytes behind them
+    ∷ hidden (asked [])
+    (toSecrets ++ key 0x38 0x00 5 ++ key 0x41 0x01 5 ++ key 0x41 0x02 5 ++ key 0x41 0x03 5 ++ key 0x41 0x04 5 ++ 0x08 ∷ 0x01 ∷ 2 ∷ 0x5C ∷ 0x5C ∷ [])
+    (toSecrets ++ blank 0x38 0x00 5 ++ blank 0x41 0x01 5 ++ blank 0x41 0x02 5 ++ blank 0x41 0x03 5 ++ blank 0x41 0x04 5 ++ 0x08 ∷ 0x01 ∷ 2 ∷ 0x5C ∷ 0x5C ∷ [])
+    -- passed, and kept, though a later grouping fails: row taken, length 65, cut short, unknown tag, torn header
+    ∷ hidden due41 (key 0x41 0x01 5 ++ key 0x41 0x01 5) (blank 0x41 0x01 5 ++ key 0x41 0x01 5)
+    ∷ hidden due41 (key 0x41 0x01 5 ++ key 0x41 0x02 65) (blank 0x41 0x01 5 ++ key 0x41 0x02 65)
+    ∷ hidden due41 (key 0x41 0x01 5 ++ 0x41 ∷ 0x02 ∷ 5 ∷ 0x5C ∷ []) (blank 0x41 0x01 5 ++ 0x41 ∷ 0x02 ∷ 5 ∷ 0x5C ∷ [])
+    ∷ hidden due41 (key 0x41 0x01 5 ++ key 0x41 0x05 5) (blank 0x41 0x01 5 ++ key 0x41 0x05 5)
+    ∷ hidden due41 (key 0x41 0x01 5 ++ 0x41 ∷ 0x02 ∷ []) (blank 0x41 0x01 5 ++ 0x41 ∷ 0x02 ∷ [])
+    -- left: the row is not due, before its time and after it
+    ∷ left due38 (stores secretData)
+    ∷ left due41 (stores (key 0x38 0x00 5))
+    ∷ left (asked []) (stores (key 0x38 0x00 5))
+    -- left: the length is 0, then a grouping that would pass; the length is 65
+    ∷ left due41 (stores (key 0x41 0x01 0 ++ key 0x41 0x02 5))
+    ∷ left due41 (stores (key 0x41 0x01 65))
+    -- left: cut short; a torn header; an unknown tag; an earlier error in the command
+    ∷ left due41 (stores (0x41 ∷ 0x01 ∷ 5 ∷ replicate 4 0x5C))
+    ∷ left due41 (stores (0x41 ∷ 0x01 ∷ 0xFF ∷ 0x00 ∷ []))
+    ∷ left due41 (stores (key 0x41 0x05 5))
+    ∷ left due41 (stores (counter ++ secretData))
+    -- left: in 'A5'
+    ∷ left (asked (command 0x80 (loaded (df 0 ++ linear)) ∷ [])) (stores secretData)
+    -- left: locked, in '5A' and in 'CC'; not selected
+    ∷ left (asked (command 0x00 (toSecrets ++ key 0x38 0x00 16) ∷ select ∷ [])) (stores secretData)
+    ∷ left (begun (event 7 0 [] ∷ [])) (stores (key 0x38 0x00 5))
+    ∷ left (install 0x0C ∷ []) (stores (key 0x38 0x00 5))
+    -- left: refused by 4 and by 5; another kind
+    ∷ left due41 (9 ∷ 0 ∷ 0 ∷ 8 ∷ secretData ++ zeros 248)
+    ∷ left due41 (2 ∷ 0 ∷ 0 ∷ 8 ∷ secretData ++ zeros 247 ++ 1 ∷ [])
+    ∷ left due41 (2 ∷ 0 ∷ 0 ∷ 7 ∷ secretData ++ zeros 248)
+    ∷ left due41 (recordOf (event 4 0 secretData))
+    -- left: the bytes of an open value, that only look like a secret's grouping
+    ∷ left (asked (command 0x00 (loaded (df 0 ++ linear)) ∷ command 0x00 (0x08 ∷ 0x01 ∷ 29 ∷ []) ∷ [])) (stores (key 0x41 0x04 5))
+    ∷ []
+
+unfoldable pub holds : Case → Bool
+holds x = let t = endOf (turns 10 (x .before)) in same (viewRecord every (t .card) (t .area) (x .given)) (x .shown)
+
+unfoldable pub allHold : List Case → Bool
+allHold [] = true
+allHold (x ∷ xs) = holds x && allHold xs
+
+pub cases-hold : T (allHold cases)
+unfolding computed cases holds allHold secretMarks marksWalk marksCommand marksIn view
+cases-hold = tt
