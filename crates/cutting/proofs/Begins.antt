@@ -1,21 +1,19 @@
 -- What a whole header comes to, and how long its value may be.
-use Prim.Native.Nat.{ℕ, zero, suc, _+_, _-_, _≤_, _<_}
-use mathlib.Core.Path.{_≡_, refl, sym, ap, _∙_, subst}
+use Prim.Native.Nat.{ℕ, zero, suc, _-_, _≤_}
+use mathlib.Core.Path.{_≡_, refl, sym, _∙_, subst}
 use mathlib.Core.Bool.{Bool, true, false, cond}
-use mathlib.Core.List.{List, [], _∷_, _++_}
+use mathlib.Core.List.{List, [], _∷_}
 use native.Mathlib.Omega.{arith}
-use lib.Dec.{eqb, leb, lit≤}
-use lib.ListN.{length, take, drop, getD}
+use lib.Dec.{eqb, lit≤}
+use lib.ListN.{getD}
 use borrow.Author.Tests.{eqb-true}
-use Rattle.model.specs.declared.Open.{Open}
-use Rattle.model.specs.declared.Open.the-variants.{Shut, Table, Record}
 use Rattle.model.specs.declared.Row.{Row}
 use Rattle.model.specs.declared.Head.{Head}
 use Rattle.model.specs.declared.Verdict.{Verdict}
 use Rattle.model.specs.declared.Verdict.the-variants.{Passes, Refuses}
 use Rattle.model.specs.Rows.{tableRow, recordRow, noRow, rowTable, rowAt, rowOf, due}
 use Rattle.model.specs.Loads.{State, fileList, withInternal, changed}
-use Rattle.model.specs.Rules.{Result, went, asked, failed, Rule, thence, _>>=_, _>>_, judged, unless, isQuery, ruleC, dueRow, ruleD, tagSpot, roomIn, roomOf, ruleE, lengthOk, ruleF, recordDone, openedAs}
+use Rattle.model.specs.Rules.{Result, went, failed, Rule, thence, _>>=_, _>>_, judged, unless, isQuery, ruleC, dueRow, ruleD, tagSpot, roomIn, roomOf, ruleE, lengthOk, ruleF, recordDone}
 use Rattle.model.specs.Order.{spannable}
 use Rattle.cutting.specs.Bytewise.{Part, between, opened, awaited, started, behind, begun}
 use Rattle.cutting.proofs.Opened.{Misses, shut}

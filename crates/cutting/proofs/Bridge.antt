@@ -1,26 +1,24 @@
 -- The published walk by groupings is the byte-wise walk: one grouping.
-use Prim.Native.Nat.{ℕ, zero, suc, _+_, _-_, _≤_, _<_}
-use mathlib.Core.Path.{_≡_, refl, sym, ap, _∙_, subst}
-use mathlib.Core.Bool.{Bool, true, false, cond, _&&_, _||_}
-use mathlib.Core.List.{List, [], _∷_, _++_}
+use Prim.Native.Nat.{ℕ, zero, suc, _-_, _≤_, _<_}
+use mathlib.Core.Path.{_≡_, refl, sym, ap, _∙_}
+use mathlib.Core.Bool.{Bool, true, false, cond, _||_}
+use mathlib.Core.List.{List, [], _∷_}
 use native.Mathlib.Omega.{arith}
 use lib.Dec.{eqb, leb}
 use lib.ListN.{length, take, drop, length-drop}
 use borrow.Author.Tests.{leb-true, leb-false, ne-eqb}
-use Rattle.model.specs.declared.Open.{Open}
-use Rattle.model.specs.declared.Open.the-variants.{Shut, Table, Record}
+use Rattle.model.specs.declared.Open.the-variants.{Record}
 use Rattle.model.specs.declared.Head.{Head}
-use Rattle.model.specs.declared.Header.{Header}
 use Rattle.model.specs.declared.Header.the-variants.{Torn, Whole}
 use Rattle.model.specs.declared.Verdict.{Verdict}
 use Rattle.model.specs.declared.Verdict.the-variants.{Passes, Refuses}
-use Rattle.model.specs.Rows.{rowAt, rowOf}
+use Rattle.model.specs.Rows.{rowAt}
 use Rattle.model.specs.Header.{headerOf}
 use Rattle.model.specs.Loads.{State, fileList, withInternal, withTaken, withOpen, changed}
-use Rattle.model.specs.Rules.{Result, went, asked, failed, Rule, thence, _>>=_, _>>_, judged, unless, does, wholeHead, ruleA, isQuery, aloneAtStart, query, ruleB, ruleC, dueRow, ruleD, roomOf, ruleE, lengthOk, ruleF, ruleG, kept, recordDone, recordBytes, tagSpot, laid, fed, openedAs, spanned, whole, ruleH, grouping}
-use Rattle.cutting.specs.Bytewise.{Part, between, head, value, ending, opened, awaited, started, behind, begun, run, atEnd}
+use Rattle.model.specs.Rules.{Result, went, asked, failed, Rule, thence, _>>=_, _>>_, judged, unless, does, ruleA, isQuery, aloneAtStart, query, ruleB, ruleC, dueRow, ruleD, roomOf, ruleE, lengthOk, ruleF, ruleG, kept, recordDone, recordBytes, tagSpot, fed, openedAs, spanned, whole, ruleH, grouping}
+use Rattle.cutting.specs.Bytewise.{Part, between, ending, opened, awaited, started, behind, begun, run, atEnd}
 use Rattle.cutting.proofs.Splits.{thence-assoc}
-use Rattle.cutting.proofs.Opened.{Misses, Leaves, laid-none, done-over, done-same, Agrees, fed-run}
+use Rattle.cutting.proofs.Opened.{Leaves, laid-none, done-over, done-same, Agrees, fed-run}
 use Rattle.cutting.proofs.Heads.{run-whole, run-torn, Long, header-long}
 use Rattle.cutting.proofs.Values.{awaited-whole, awaited-short, Closed, kept-closed, not-table, opened-misses}
 

@@ -1,7 +1,7 @@
 -- The writer's commands of a complete order: each takes the walk on, and together they take it where the order does.
-use Prim.Native.Nat.{ℕ, zero, suc, _+_, _≤_, _<_}
-use mathlib.Core.Path.{_≡_, refl, sym, ap, _∙_, subst}
-use mathlib.Core.Bool.{Bool, true, false, cond, not, _&&_}
+use Prim.Native.Nat.{ℕ, _+_, _≤_}
+use mathlib.Core.Path.{_≡_, refl, sym, ap, _∙_}
+use mathlib.Core.Bool.{Bool, true, false}
 use mathlib.Core.List.{List, [], _∷_, _++_}
 use native.Mathlib.Omega.{arith}
 use native.Mathlib.Nat.{le-refl}
@@ -10,17 +10,16 @@ use lib.ListN.{length, drop, length-append}
 use borrow.Author.Tests.{leb-true, le-leb}
 use Rattle.model.specs.declared.Open.{Open}
 use Rattle.model.specs.declared.Open.the-variants.{Shut, Table, Record}
-use Rattle.model.specs.declared.Head.{Head}
 use Rattle.model.specs.declared.Header.{Header}
 use Rattle.model.specs.declared.Header.the-variants.{Torn, Whole}
 use Rattle.model.specs.Stored.{dataRoom}
 use Rattle.model.specs.Rows.{taken, withRow, rowTable, missingFrom, mandatoryMissing}
 use Rattle.model.specs.Header.{headerOf}
 use Rattle.model.specs.Loads.{State}
-use Rattle.model.specs.Rules.{Result, went, asked, failed, Rule, thence, isQuery}
+use Rattle.model.specs.Rules.{Result, went, asked, failed, thence, isQuery}
 use Rattle.model.specs.Command.{walk, ready, theEnd, command}
 use Rattle.model.specs.Order.{orderLimit, challengedState, finished, complete, unitsIn, packed, cutOf, recordsFor}
-use Rattle.cutting.specs.Bytewise.{Part, between, head, value, begun, run, atEnd, headAsks, asks}
+use Rattle.cutting.specs.Bytewise.{Part, between, head, value, run, atEnd, headAsks, asks}
 use Rattle.cutting.specs.Packs.{longestUnit, Sized, none, more}
 use Rattle.cutting.specs.Job.{stateOf, uncut}
 use Rattle.cutting.proofs.Splits.{run-after}
@@ -105,7 +104,7 @@ finished-went (went n s) h = refl
 finished-went (asked t s) h = absurd (never h)
 finished-went (failed w s) h = absurd (never h)
 
-finished-ready : (r : Result ℕ) → finished r ≡ true → ready (stateOf r) ≡ true
+pub finished-ready : (r : Result ℕ) → finished r ≡ true → ready (stateOf r) ≡ true
 finished-ready (went n s) h = h
 finished-ready (asked t s) h = absurd (never h)
 finished-ready (failed w s) h = absurd (never h)

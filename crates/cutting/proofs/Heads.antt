@@ -1,23 +1,23 @@
 -- A header, byte by byte: whole, the walk judges it there; torn, the command fails by '6A80'.
-use Prim.Native.Nat.{ℕ, zero, suc, _+_, _≤_, _<_}
-use mathlib.Core.Path.{_≡_, refl, sym, ap, _∙_, subst}
+use Prim.Native.Nat.{ℕ, suc, _≤_}
+use mathlib.Core.Path.{_≡_, refl, ap, _∙_}
 use mathlib.Core.Bool.{Bool, true, false, cond}
-use mathlib.Core.List.{List, [], _∷_, _++_}
+use mathlib.Core.List.{List, [], _∷_}
 use native.Mathlib.Omega.{arith}
-use lib.Dec.{eqb, ltb, lit≤}
+use lib.Dec.{eqb, lit≤}
 use lib.ListN.{length, take, drop, drop-of-length-le}
 use lib.Seq.{length-take-le}
 use borrow.Author.Tests.{le-ltb}
 use Rattle.lists.specs.Bytes.{word}
 use Rattle.model.specs.declared.Open.{Open}
-use Rattle.model.specs.declared.Open.the-variants.{Shut, Table, Record}
+use Rattle.model.specs.declared.Open.the-variants.{Shut}
 use Rattle.model.specs.declared.Head.{Head}
 use Rattle.model.specs.declared.Header.{Header}
 use Rattle.model.specs.declared.Header.the-variants.{Torn, Whole}
 use Rattle.model.specs.Header.{headed, longForm, headerOf}
 use Rattle.model.specs.Loads.{State}
 use Rattle.model.specs.Rules.{Result, went, asked, failed, Rule, thence}
-use Rattle.cutting.specs.Bytewise.{Part, between, head, value, openByte, begun, onHead, step, run, atEnd}
+use Rattle.cutting.specs.Bytewise.{Part, between, head, openByte, begun, onHead, step, run, atEnd}
 
 -- the header of three bytes or more, and of five or more where the third is 'FF'
 pub header-three : (a b c : ℕ) (r : List ℕ) → headerOf (a ∷ b ∷ c ∷ r) ≡ cond (eqb c 0xFF) (longForm (a ∷ b ∷ c ∷ r)) (headed (word a b) 3 c)

@@ -1,16 +1,15 @@
 -- Values laid into their records, one after another: each stays, and what they leave out stays as it was.
 use Prim.Native.Nat.{ℕ, zero, suc, _+_, _-_, _≤_, _<_}
-use mathlib.Core.Path.{_≡_, refl, sym, ap, _∙_, subst}
-use mathlib.Core.Logic.{_≢_}
-use mathlib.Core.Bool.{Bool, true, false, cond}
+use mathlib.Core.Path.{_≡_, refl, sym, _∙_, subst}
+use mathlib.Core.Bool.{Bool, true, false}
 use mathlib.Core.List.{List, [], _∷_, _++_}
 use native.Mathlib.Omega.{arith}
 use native.Mathlib.Nat.{add-zero, add-suc, suc-add}
 use lib.Dec.{leb}
-use lib.ListN.{length, getD, take, drop, set, replicate, length-set, length-take, length-drop, length-append, length-replicate, List·getD-eq-default}
+use lib.ListN.{length, getD, drop, set, length-set, length-take, length-drop, length-append, length-replicate, List·getD-eq-default}
 use lib.Seq.{getD-set-same, getD-set-other, getD-take, getD-drop, ext-getD}
 use borrow.Author.Tests.{leb-true, leb-false}
-use Rattle.lists.specs.Bytes.{byteAt, part, zeros, padded}
+use Rattle.lists.specs.Bytes.{part, zeros, padded}
 use Rattle.lists.specs.Over.{overwrite, length-over}
 use Rattle.model.specs.declared.Descriptor.{Descriptor}
 use Rattle.model.specs.declared.Spot.{Spot}
@@ -165,7 +164,7 @@ module _ (files : List Descriptor) where
       let u : length (g .bytes) ≤ p .size = p .fits in
       rw (p .spot, add-zero (p .base)) (over-inside (g .bytes) a (p .base) k f (omega arith))
 
-  length-all : (gs : List Grouped) (a : List ℕ) → length (laidAll files gs a) ≡ length a
+  pub length-all : (gs : List Grouped) (a : List ℕ) → length (laidAll files gs a) ≡ length a
   unfolding laidAll
   length-all [] a = refl
   length-all (g ∷ gs) a = length-all gs (laid (tagSpot files (g .tag)) 0 (g .bytes) a) ∙ length-laid (tagSpot files (g .tag)) (g .bytes) a

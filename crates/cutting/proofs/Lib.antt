@@ -18,3 +18,5 @@ pub mod Laid
 pub mod Passed
 pub mod Listed
 pub mod Filled
+pub mod Files
+pub mod Witness

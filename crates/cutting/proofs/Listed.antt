@@ -1,12 +1,12 @@
 -- Groupings of rows 2 to 10 leave the file area alone, and the file table within it.
-use Prim.Native.Nat.{ℕ, zero, suc, _+_, _-_, _*_, _/_, _%_, _≤_, _<_}
-use mathlib.Core.Path.{_≡_, refl, sym, ap, _∙_, subst}
-use mathlib.Core.Bool.{Bool, true, false, cond, not, _&&_, _||_}
+use Prim.Native.Nat.{ℕ, zero, suc, _+_, _-_, _*_, _/_, _≤_, _<_}
+use mathlib.Core.Path.{_≡_, refl, sym, _∙_}
+use mathlib.Core.Bool.{Bool, true, false, cond}
 use mathlib.Core.List.{List, [], _∷_, _++_}
 use native.Mathlib.Omega.{arith}
 use native.Mathlib.Nat.{div-lt-iff-lt-mul}
 use native.Mathlib.Numerals.{add-one}
-use lib.Dec.{eqb, leb, ltb, lit≤}
+use lib.Dec.{eqb, leb, lit≤}
 use lib.ListN.{length, take, drop, set, length-set, length-take}
 use lib.Seq.{take-suc-set}
 use borrow.Author.Tests.{eqb-true, leb-true, ltb-true}
@@ -19,12 +19,12 @@ use Rattle.model.specs.declared.Head.{Head}
 use Rattle.model.specs.declared.Verdict.{Verdict}
 use Rattle.model.specs.declared.Verdict.the-variants.{Passes, Refuses}
 use Rattle.model.specs.Stored.{areaSize}
-use Rattle.model.specs.Rows.{descriptorSize, rowTable, rowAt, inRow, rowFrom, rowOf, taken, noneFrom}
+use Rattle.model.specs.Rows.{descriptorSize, rowTable, rowAt, inRow, rowFrom, rowOf, noneFrom}
 use Rattle.model.specs.Table.{tableLimit, accessesOk, dfOk, efOk, sizeOf, rulesOk, total, admitOf, descriptorOf}
-use Rattle.model.specs.Loads.{State, fileList, withFile, withTaken, changed}
-use Rattle.model.specs.Rules.{Result, went, asked, failed, Rule, thence, _>>_, does, described, startupOk, startup, kept, tableDone, tableByte, inTable, tableBytes, fed, openedAs, spanned, whole, ruleH}
+use Rattle.model.specs.Loads.{State, fileList, withOpen, withTaken, changed}
+use Rattle.model.specs.Rules.{Result, went, asked, failed, Rule, thence, _>>_, does, described, startupOk, startup, kept, tableDone, tableByte, inTable, tableBytes, fed, spanned, whole, ruleH}
 use Rattle.cutting.proofs.Opened.{Leaves}
-use Rattle.cutting.proofs.Values.{and-left, and-right}
+use Rattle.cutting.proofs.Values.{and-left}
 use Rattle.cutting.proofs.Walks.{never}
 
 -- the file table: 31 places, and the files that it lists fit in the file area
@@ -131,6 +131,10 @@ row-under tag r [] h = omega arith
 row-under tag r (x ∷ xs) h = let k : rowFrom tag (suc r) xs < suc r + length xs = row-under tag (suc r) xs (omega arith) in
     by-cond (λ (m : ℕ). m < r + suc (length xs)) (inRow tag x) (λ q. omega arith) (λ q. omega arith)
 
+row-few : (tag : ℕ) → rowOf tag < 12
+unfolding rowOf rowTable
+row-few tag = row-under tag 1 rowTable (lit≤ tt)
+
 module _ (P : ℕ → Type 0) (p0 : P 0) (p1 : P 1) (p2 : P 2) (p3 : P 3) (p4 : P 4) (p5 : P 5) (p6 : P 6) (p7 : P 7) (p8 : P 8) (p9 : P 9) (p10 : P 10) (p11 : P 11) where
   under-twelve : (r : ℕ) → r < 12 → P r
   under-twelve zero h = p0
@@ -148,8 +152,7 @@ module _ (P : ℕ → Type 0) (p0 : P 0) (p1 : P 1) (p2 : P 2) (p3 : P 3) (p4 : 
   under-twelve (suc (suc (suc (suc (suc (suc (suc (suc (suc (suc (suc (suc n)))))))))))) h = absurd (omega arith)
 
   rows-all : (tag : ℕ) → P (rowOf tag)
-  unfolding rowOf
-  rows-all tag = under-twelve (rowFrom tag 1 rowTable) (let k : rowFrom tag 1 rowTable < 1 + length rowTable = row-under tag 1 rowTable (omega arith) in unfold rowTable in k)
+  rows-all tag = under-twelve (rowOf tag) (row-few tag)
 
 -- a row before 11 may come only where 11 is not taken
 below : (rows k : ℕ) → 0 < k → k ≤ 1024 → rows / k ≡ 0 → rows < 1024
@@ -158,7 +161,7 @@ below rows k p l e = let f : rows < 1 * k = div-lt-iff-lt-mul {y = 1} p .0 (omeg
 Early : ℕ → ℕ → Type 0
 Early rows r = eqb r 11 ≡ false → noneFrom rows r ≡ true → rows < 1024
 
-early-row : (rows tag : ℕ) → eqb (rowOf tag) 11 ≡ false → noneFrom rows (rowOf tag) ≡ true → rows < 1024
+pub early-row : (rows tag : ℕ) → eqb (rowOf tag) 11 ≡ false → noneFrom rows (rowOf tag) ≡ true → rows < 1024
 unfolding noneFrom Early
 early-row rows tag =
     rows-all (Early rows)
@@ -179,3 +182,23 @@ unfolding rowAt rowTable Tabled
 table-row tag =
     rows-all Tabled (λ e f. absurd (never e)) (λ e f. absurd (never e)) (λ e f. absurd (never e)) (λ e f. absurd (never e)) (λ e f. absurd (never e)) (λ e f. refl)
     (λ e f. absurd (never e)) (λ e f. absurd (never e)) (λ e f. absurd (never e)) (λ e f. absurd (never e)) (λ e f. absurd (never e)) (λ e f. absurd (never (sym f))) tag
+
+-- rule h of a row before 11
+table-stays : (a : List ℕ) (row : ℕ) (h : Head) (rest : List ℕ) (s : State) → eqb row 5 ≡ true → Stays a s → Gives (Leaving a (drop (h .len) rest)) (spanned row h rest s)
+unfolding spanned fed
+table-stays a row h rest s q k =
+    let s₁ : State = changed (λ l. withOpen (Table 0 (h .len)) (l .held) l) s in
+    rw q (gives-rest a (drop (h .len) rest) (tableBytes (take (h .len) rest) s₁) (bytes-stay a (take (h .len) rest) s₁ k))
+
+whole-stays : (a : List ℕ) (capacity row : ℕ) (h : Head) (rest : List ℕ) (s : State) → Stays a s → Gives (Leaving a (drop (h .len) rest)) (whole capacity row h rest s)
+unfolding whole
+whole-stays a capacity row h rest s k =
+    gives-then a (drop (h .len) rest) (kept capacity row (take (h .len) rest) s) (changed (withTaken row)) (λ s₁ j. j) (kept-stays a capacity row (take (h .len) rest) s k)
+
+pub before-stays : (a : List ℕ) (capacity : ℕ) (h : Head) (rest : List ℕ) (s : State) → eqb (rowOf (h .tag)) 11 ≡ false → Stays a s
+    → Gives (Leaving a (drop (h .len) rest)) (ruleH capacity (rowOf (h .tag)) h rest s)
+unfolding ruleH
+before-stays a capacity h rest s q k =
+    by-cond (λ (m : Rule (List ℕ)). Gives (Leaving a (drop (h .len) rest)) (m s)) (rowAt (rowOf (h .tag)) .spans)
+    (λ e. table-stays a (rowOf (h .tag)) h rest s (table-row (h .tag) e q) k)
+    (λ e. whole-stays a capacity (rowOf (h .tag)) h rest s k)

@@ -1,16 +1,14 @@
 -- A value that runs on: it takes its bytes one by one as it takes them at once, and after the last it is shut.
-use Prim.Native.Nat.{ℕ, zero, suc, _+_, _-_, _%_, _≤_, _<_}
-use mathlib.Core.Path.{_≡_, refl, sym, ap, _∙_, subst}
-use mathlib.Core.Bool.{Bool, true, false, cond}
-use mathlib.Core.List.{List, [], _∷_, _++_}
+use Prim.Native.Nat.{ℕ, zero, suc, _+_, _-_, _%_, _<_}
+use mathlib.Core.Path.{_≡_, refl, sym, ap, _∙_}
+use mathlib.Core.List.{List, [], _∷_}
 use native.Mathlib.Omega.{arith}
 use native.Mathlib.Nat.{sub-zero, suc-sub-suc, add-zero}
-use native.Mathlib.Numerals.{add-one}
 use lib.Dec.{eqb}
 use lib.ListN.{length, take, drop, set}
 use borrow.Author.Tests.{eqb-true, eqb-false}
 use Rattle.lists.specs.Choice.{by-cond}
-use Rattle.lists.specs.Over.{overwrite, over-then, over-none}
+use Rattle.lists.specs.Over.{over-then, over-none}
 use Rattle.model.specs.declared.Descriptor.{Descriptor}
 use Rattle.model.specs.declared.Loading.{Loading}
 use Rattle.model.specs.declared.Open.{Open}
@@ -23,7 +21,7 @@ use Rattle.model.specs.Rows.{descriptorSize}
 use Rattle.model.specs.Table.{descriptorOf, admitOf}
 use Rattle.model.specs.Loads.{State, fileList, withOpen, changed}
 use Rattle.model.specs.Rules.{Result, went, asked, failed, Rule, thence, described, tableDone, recordDone, tableByte, tableBytes, inTable, tagSpot, laid, recordBytes, feeding, fed}
-use Rattle.cutting.specs.Bytewise.{Part, between, head, value, openByte, step, run, atEnd}
+use Rattle.cutting.specs.Bytewise.{Part, between, openByte, step, run, atEnd}
 
 -- `Misses o n`: the open value `o` wants n bytes more, and its end falls on the end of a descriptor
 pub data Misses : Open → ℕ → Type 0 where

@@ -1,21 +1,21 @@
 -- The writer's cut: none of the order's bytes is lost or doubled, and a command closes only where the next unit does not fit.
-use Prim.Native.Nat.{ℕ, zero, suc, _+_, _*_, _≤_, _<_}
-use mathlib.Core.Path.{_≡_, refl, sym, ap, _∙_, subst}
+use Prim.Native.Nat.{ℕ, zero, suc, _+_, _*_, _≤_}
+use mathlib.Core.Path.{_≡_, refl, sym, ap, _∙_}
 use mathlib.Core.Bool.{Bool, true, false, cond}
 use mathlib.Core.List.{List, [], _∷_, _++_, append-nil, append-assoc}
 use native.Mathlib.Omega.{arith}
-use native.Mathlib.Nat.{zero-add, le-refl}
+use native.Mathlib.Nat.{le-refl}
 use lib.Dec.{leb}
 use lib.ListN.{length, take, drop, length-append, length-drop, take-append-drop}
-use lib.Seq.{take-add, drop-drop}
-use borrow.Author.Tests.{leb-true, leb-false, le-leb}
+use lib.Seq.{take-add}
+use borrow.Author.Tests.{leb-false}
 use Rattle.model.specs.declared.Head.{Head}
 use Rattle.model.specs.declared.Header.{Header}
 use Rattle.model.specs.declared.Header.the-variants.{Torn, Whole}
 use Rattle.model.specs.Stored.{dataRoom}
 use Rattle.model.specs.Header.{headerOf}
 use Rattle.model.specs.Order.{spannable, single, groupingUnits, unitsBy, unitsIn, packed, cutOf, storedAll, recordsFor}
-use Rattle.cutting.specs.Packs.{joined, Packs, last, next, longestUnit, Sized, none, more}
+use Rattle.cutting.specs.Packs.{joined, Packs, last, next, longestUnit, Sized, more}
 use Rattle.cutting.proofs.Heads.{Long, header-long}
 
 pub joined-append : (us vs : List (List ℕ)) → joined (us ++ vs) ≡ joined us ++ joined vs

@@ -1,29 +1,28 @@
 -- The job's records, played on a fresh card: INSTALL, SELECT, '9484', and then the writer's commands.
-use Prim.Native.Nat.{ℕ, zero, suc, _+_, _≤_, _<_}
-use mathlib.Core.Path.{_≡_, refl, sym, ap, _∙_, subst}
-use mathlib.Core.Bool.{Bool, true, false, cond, not, _&&_}
+use Prim.Native.Nat.{ℕ, suc, _≤_}
+use mathlib.Core.Path.{_≡_, refl, ap, _∙_}
+use mathlib.Core.Bool.{Bool, true, false, cond}
 use mathlib.Core.List.{List, [], _∷_, _++_, append-assoc}
 use native.Mathlib.Omega.{arith}
-use lib.Dec.{eqb, leb}
+use lib.Dec.{eqb}
 use lib.ListN.{length, replicate}
 use borrow.Author.Tests.{ne-eqb}
 use Rattle.lists.specs.Bytes.{zeros, padded, same}
 use Rattle.model.specs.declared.Chip.{Chip}
 use Rattle.model.specs.declared.Card.{Card}
-use Rattle.model.specs.Stored.{freshLoading, freshCard, Event, recordOf, areaSize, dataRoom}
-use Rattle.model.specs.Rows.{rowTable, taken, withRow, missingFrom, readyFor, noneFrom, rising, due}
+use Rattle.model.specs.Stored.{freshLoading, freshCard, areaSize, dataRoom}
+use Rattle.model.specs.Rows.{rowTable, missingFrom, readyFor, noneFrom, due}
 use Rattle.model.specs.Header.{headerOf}
 use Rattle.model.specs.Loads.{State, withInternal, withTaken, changed}
-use Rattle.model.specs.Rules.{Result, went, asked, failed, ruleA, ruleB, query, challenged, fed, grouping}
+use Rattle.model.specs.Rules.{went, ruleA, ruleB, query, challenged, fed, grouping}
 use Rattle.model.specs.Command.{walk, ready, theEnd, command}
-use Rattle.model.specs.Events.{Reply, says, gives, isName, nameFci, namesIn, installForm, installing, install, select, commanded, storeData, personalizing, otherwise, event, answerTo}
-use Rattle.model.specs.Session.{Turn, replied, turnOf, Run, turned, after, runFrom}
+use Rattle.model.specs.Events.{says, gives, isName, nameFci, namesIn, installForm, installing, install, select, commanded, storeData, personalizing, otherwise, event, answerTo}
+use Rattle.model.specs.Session.{replied, turnOf, Run, turned, after, runFrom}
 use Rattle.model.specs.Order.{challengedState, stored, storedAll}
 use Rattle.cutting.specs.Bytewise.{between, run}
 use Rattle.cutting.specs.Job.{instanceName, installData, installRecord, selectRecord, jobCard}
 use Rattle.cutting.proofs.Opened.{Misses}
 use Rattle.cutting.proofs.Stored.{turn-stored}
-use Rattle.cutting.proofs.Walks.{never}
 use Rattle.cutting.proofs.Units.{Chain, done, link}
 use Rattle.cutting.proofs.Commands.{command-passes}
 

@@ -1,10 +1,10 @@
 -- The byte-wise walk over two lists end to end is the walk over the second after that over the first.
-use Prim.Native.Nat.{ℕ, zero, suc}
+use Prim.Native.Nat.{ℕ}
 use mathlib.Core.Path.{_≡_, refl, sym, ap, _∙_}
 use mathlib.Core.List.{List, [], _∷_, _++_}
 use Rattle.model.specs.Loads.{State}
 use Rattle.model.specs.Rules.{Result, went, asked, failed, Rule, thence}
-use Rattle.cutting.specs.Bytewise.{Part, between, head, value, step, run}
+use Rattle.cutting.specs.Bytewise.{Part, step, run}
 
 pub thence-assoc : {A B C : Type 0} (r : Result A) (f : A → Rule B) (g : B → Rule C) → thence (thence r f) g ≡ thence r (λ a s. thence (f a s) g)
 thence-assoc (went a s) f g = refl

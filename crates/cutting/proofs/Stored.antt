@@ -1,18 +1,19 @@
 -- An event as a record, and read from it again; records end to end, and apart again.
-use Prim.Native.Nat.{ℕ, zero, suc, _+_, _-_, _*_, _/_, _%_, _≤_, _<_}
-use mathlib.Core.Path.{_≡_, refl, sym, ap, _∙_, subst}
-use mathlib.Core.Bool.{Bool, true, false, cond, not, _&&_}
-use mathlib.Core.List.{List, [], _∷_, _++_}
+use Prim.Native.Nat.{ℕ, zero, suc, _+_, _-_, _*_, _≤_}
+use mathlib.Core.Path.{_≡_, refl, ap, ap₂}
+use mathlib.Core.Bool.{true}
+use mathlib.Core.List.{List, [], _∷_, map}
 use native.Mathlib.Omega.{arith}
-use lib.Dec.{eqb, leb}
-use lib.ListN.{length, take, drop, replicate, length-append, length-replicate}
+use lib.ListN.{length, length-append, length-replicate}
 use lib.Seq.{take-append-seam, drop-append-seam, take-at, drop-at}
-use Rattle.lists.specs.Bytes.{byteAt, part, zeros, allZero}
+use Rattle.lists.specs.Bytes.{byteAt, zeros, allZero}
 use Rattle.model.specs.declared.Card.{Card}
 use Rattle.model.specs.Stored.{Event, eventIn, isKind, paddedZero, recordOf, recordSize, dataRoom}
-use Rattle.model.specs.Events.{Reply, event}
-use Rattle.model.specs.Session.{Turn, refusedBy, replied, turnOf, recordsIn}
-use Rattle.cutting.specs.Packs.{joined, Sized, none, more}
+use Rattle.model.specs.Events.{event}
+use Rattle.model.specs.Session.{replied, turnOf, recordsIn}
+use Rattle.model.specs.Order.{cutOf, stored, storedAll, recordsFor}
+use Rattle.cutting.specs.Job.{dataIn}
+use Rattle.cutting.specs.Packs.{joined, Sized, more}
 
 pub record-length : (e : Event) → length (e .bytes) ≤ dataRoom → length (recordOf e) ≡ recordSize
 unfolding recordOf
@@ -22,6 +23,9 @@ record-length e h = rw (length-append (e .bytes) (zeros (256 - length (e .bytes)
 pub event-back : (e : Event) → eventIn (recordOf e) ≡ e
 unfolding recordOf
 event-back e = rw (take-append-seam (e .bytes) (zeros (256 - length (e .bytes))))
+
+data-stored : (p1 : ℕ) (d : List ℕ) → dataIn (stored p1 d) ≡ d
+data-stored p1 d = ap (λ (e : Event). e .bytes) (event-back (record { kind = 2; p1 = p1; bytes = d }))
 
 zeros-zero : (n : ℕ) → allZero (zeros n) ≡ true
 unfolding allZero
@@ -60,3 +64,15 @@ joined-apart [] h = refl
 joined-apart (r ∷ rs) (more l m h) =
     let n : length r ≡ recordSize = omega arith in
     rw (take-at r (joined rs) recordSize n, drop-at r (joined rs) recordSize n, joined-apart rs h)
+
+-- the data that records hold
+stored-data : (cs : List (List ℕ)) → map dataIn (storedAll cs) ≡ cs
+unfolding storedAll
+stored-data [] = refl
+stored-data (c ∷ []) = ap (λ (l : List ℕ). l ∷ []) (data-stored 0x80 c)
+stored-data (c ∷ d ∷ cs) = ap₂ (λ (l : List ℕ) (ls : List (List ℕ)). l ∷ ls) (data-stored 0x00 c) (stored-data (d ∷ cs))
+
+-- the writer's records hold 94 84 00 and then the cut
+pub records-hold : (order : List ℕ) → map dataIn (recordsFor order) ≡ (0x94 ∷ 0x84 ∷ 0x00 ∷ []) ∷ cutOf order
+unfolding recordsFor
+records-hold order = ap₂ (λ (l : List ℕ) (ls : List (List ℕ)). l ∷ ls) (data-stored 0x01 (0x94 ∷ 0x84 ∷ 0x00 ∷ [])) (stored-data (cutOf order))

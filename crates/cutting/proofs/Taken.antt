@@ -1,28 +1,28 @@
 -- THE CARD TAKES WHATEVER THE WRITER CUTS: the return of demand 2, over `runOf` and `writeOf`.
-use Prim.Native.Nat.{ℕ, zero, suc, _+_, _*_, _/_, _%_, _≤_, _<_}
+use Prim.Native.Nat.{ℕ, _*_, _%_, _≤_}
 use mathlib.Core.Path.{_≡_, refl, sym, ap, _∙_, subst}
-use mathlib.Core.Bool.{Bool, true, false, cond, not, _&&_}
+use mathlib.Core.Bool.{true, false}
 use mathlib.Core.List.{List, [], _∷_, _++_}
 use native.Mathlib.Omega.{arith}
-use lib.Dec.{eqb, ltb, leb, lit≤}
-use lib.ListN.{length, replicate, replicate-append-replicate}
-use borrow.Author.Tests.{eq-eqb, le-ltb, ltb-false, not-false, not-true}
+use lib.Dec.{lit≤}
+use lib.ListN.{length, replicate}
+use borrow.Author.Tests.{eq-eqb, le-ltb}
 use Rattle.model.specs.declared.Chip.{Chip}
 use Rattle.model.specs.declared.Card.{Card}
-use Rattle.model.specs.Stored.{chipOf, chipForm, freshCard, Event, recordOf, recordSize, dataRoom, areaSize}
+use Rattle.model.specs.Stored.{chipOf, chipForm, freshCard, recordSize, dataRoom, areaSize}
 use Rattle.model.specs.Rows.{taken}
 use Rattle.model.specs.Table.{tablePasses}
 use Rattle.model.specs.Loads.{State, withInternal, changed}
 use Rattle.model.specs.Command.{ready}
 use Rattle.model.specs.Sound.{sound, soundWith, secretsOk}
-use Rattle.model.specs.Session.{freshOf, Run, runFrom, Session, eventsIn, runOf, recordsIn}
-use Rattle.model.specs.Order.{orderLimit, challengedState, complete, cutOf, stored, storedAll, recordsFor, Writing, noWriting, writeOf}
+use Rattle.model.specs.Session.{Run, runFrom, eventsIn, runOf}
+use Rattle.model.specs.Order.{challengedState, complete, cutOf, stored, storedAll, recordsFor}
 use Rattle.cutting.specs.Packs.{joined, Sized, none, more}
 use Rattle.cutting.specs.Job.{installRecord, selectRecord, jobWith, sessionOf, jobCard, uncut, Taken}
 use Rattle.cutting.proofs.Walks.{never}
 use Rattle.cutting.proofs.Units.{Chain, done, link}
 use Rattle.cutting.proofs.Stored.{record-length, joined-length, joined-apart}
-use Rattle.cutting.proofs.Commands.{cut-chain, cut-sized, complete-ready, not-ready, records-few}
+use Rattle.cutting.proofs.Commands.{cut-chain, cut-sized, complete-ready, not-ready}
 use Rattle.cutting.proofs.Packing.{length-stored}
 use Rattle.cutting.proofs.Played.{runAt, loaded, takes-all, asking, begun-all}
 

@@ -1,7 +1,7 @@
 -- The units of an order that passes: each takes the byte-wise walk from between groupings to between groupings.
-use Prim.Native.Nat.{ℕ, zero, suc, _+_, _-_, _≤_, _<_}
+use Prim.Native.Nat.{ℕ, zero, suc, _+_, _≤_}
 use mathlib.Core.Path.{_≡_, refl, sym, ap, _∙_, subst}
-use mathlib.Core.Bool.{Bool, true, false, cond}
+use mathlib.Core.Bool.{Bool, true, false}
 use mathlib.Core.List.{List, [], _∷_, _++_, append-nil}
 use native.Mathlib.Omega.{arith}
 use lib.Dec.{leb, lit≤}
@@ -14,12 +14,12 @@ use Rattle.model.specs.declared.Header.{Header}
 use Rattle.model.specs.declared.Header.the-variants.{Torn, Whole}
 use Rattle.model.specs.Header.{headerOf}
 use Rattle.model.specs.Loads.{State, withTaken, changed}
-use Rattle.model.specs.Rules.{Result, went, asked, failed, Rule, thence, does, _>>_, kept}
+use Rattle.model.specs.Rules.{Result, went, asked, failed, thence, does, _>>_, kept}
 use Rattle.model.specs.Order.{single, groupingUnits, unitsBy, unitsIn}
 use Rattle.cutting.specs.Bytewise.{Part, between, value, ending, awaited, begun, step, run, atEnd}
 use Rattle.cutting.specs.Packs.{longestUnit}
 use Rattle.cutting.proofs.Splits.{run-append}
-use Rattle.cutting.proofs.Opened.{Misses, shut, misses-none, Leaves, Rests, rests-then, step-rests}
+use Rattle.cutting.proofs.Opened.{Misses, shut, misses-none, Leaves, Rests, step-rests}
 use Rattle.cutting.proofs.Heads.{run-torn, run-whole, run-head, Long, header-long}
 use Rattle.cutting.proofs.Values.{Closed, kept-closed, value-whole, awaited-whole, awaited-short}
 use Rattle.cutting.proofs.Begins.{Begins, fails, opens, awaits, begins-so}

@@ -1,7 +1,7 @@
 -- A value that may not run on: there whole, it is kept; cut short, the walk stands in it. And what rules d to f have then said.
-use Prim.Native.Nat.{ℕ, zero, suc, _+_, _-_, _%_, _≤_, _<_}
+use Prim.Native.Nat.{ℕ, zero, suc, _-_, _%_, _≤_, _<_}
 use mathlib.Core.Path.{_≡_, refl, sym, ap, _∙_, subst}
-use mathlib.Core.Bool.{Bool, true, false, cond, _&&_}
+use mathlib.Core.Bool.{Bool, true, false, _&&_}
 use mathlib.Core.List.{List, [], _∷_, _++_, append-nil, append-assoc}
 use native.Mathlib.Omega.{arith}
 use native.Mathlib.Nat.{suc-sub-suc, sub-zero}
@@ -11,11 +11,11 @@ use lib.Seq.{length-take-le}
 use borrow.Author.Tests.{leb-true, eqb-true}
 use Rattle.lists.specs.Choice.{by-cond}
 use Rattle.model.specs.declared.Open.{Open}
-use Rattle.model.specs.declared.Open.the-variants.{Shut, Table, Record}
+use Rattle.model.specs.declared.Open.the-variants.{Shut}
 use Rattle.model.specs.Rows.{rowAt, rowTable}
-use Rattle.model.specs.Loads.{State, withTaken, changed}
-use Rattle.model.specs.Rules.{Result, went, asked, failed, Rule, thence, lengthOk, startupOk, startup, kept, openedAs}
-use Rattle.cutting.specs.Bytewise.{Part, between, head, value, ending, awaited, step, run, atEnd}
+use Rattle.model.specs.Loads.{State}
+use Rattle.model.specs.Rules.{went, failed, Rule, thence, lengthOk, startupOk, startup, kept, openedAs}
+use Rattle.cutting.specs.Bytewise.{value, ending, awaited, step, run, atEnd}
 use Rattle.cutting.proofs.Opened.{Misses, table, stored, Leaves}
 
 -- the last byte of a value, and those before

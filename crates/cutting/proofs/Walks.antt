@@ -1,13 +1,13 @@
 -- The published walk by groupings is the byte-wise walk: groupings end to end, and a whole command.
 use Prim.Native.Nat.{ℕ, zero, suc, _+_, _*_, _%_, _≤_, _<_}
-use mathlib.Core.Path.{_≡_, refl, sym, ap, _∙_, subst}
-use mathlib.Core.Bool.{Bool, true, false, cond, not, _&&_}
-use mathlib.Core.List.{List, [], _∷_, _++_}
+use mathlib.Core.Path.{_≡_, refl, sym, _∙_, subst}
+use mathlib.Core.Bool.{Bool, true, false, not, _&&_}
+use mathlib.Core.List.{List, [], _∷_}
 use native.Mathlib.Omega.{arith}
 use native.Mathlib.Nat.{le-refl}
 use lib.Dec.{T, eqb, leb, ltb}
 use lib.ListN.{length}
-use borrow.Author.Tests.{eqb-true, ltb-true, leb-true}
+use borrow.Author.Tests.{eqb-true, ltb-true}
 use Rattle.model.specs.declared.Open.{Open}
 use Rattle.model.specs.declared.Open.the-variants.{Shut, Table, Record}
 use Rattle.model.specs.declared.Head.{Head}
@@ -17,12 +17,12 @@ use Rattle.model.specs.declared.Loading.{Loading}
 use Rattle.model.specs.declared.Card.{Card}
 use Rattle.model.specs.Header.{headerOf}
 use Rattle.model.specs.Loads.{State}
-use Rattle.model.specs.Rules.{Result, went, asked, failed, Rule, thence, isQuery, fed, grouping}
+use Rattle.model.specs.Rules.{Rule, thence, fed, grouping}
 use Rattle.model.specs.Command.{walk, theEnd, command}
 use Rattle.model.specs.Rows.{taken}
 use Rattle.model.specs.Sound.{gpOk, internalOk, nameOk, selectedOk, descriptorsOk, rowsOk, tablePlaced, secretsOk, openOk, tableFits, pendingFits, someMissing, soundWith, sound}
 use Rattle.model.specs.declared.Life.{Life}
-use Rattle.cutting.specs.Bytewise.{Part, between, run, atEnd, step, headAsks, asks}
+use Rattle.cutting.specs.Bytewise.{between, run, atEnd, step, asks}
 use Rattle.cutting.proofs.Splits.{thence-assoc}
 use Rattle.cutting.proofs.Opened.{Misses, shut, table, stored, misses-none, fed-shut, fed-none, fed-step, step-rests, Agrees, fed-then, fed-run}
 use Rattle.cutting.proofs.Values.{Closed, and-left, and-right}
@@ -129,3 +129,11 @@ sound-misses c h =
     fits-misses (c .loading .pending) (c .loading)
     (and-right (besides (c .life) (c .loading)) (pendingFits (c .loading .pending) (c .loading)) (and-left (besides (c .life) (c .loading) && pendingFits (c .loading .pending) (c .loading)) (someMissing (c .loading .pending)) h))
     (and-right (besides (c .life) (c .loading) && pendingFits (c .loading .pending) (c .loading)) (someMissing (c .loading .pending)) h)
+
+-- the bridge on a sound card
+pub command-sound : (c : Card) (area : List ℕ) (p1 : ℕ) (bytes : List ℕ) → sound c ≡ true → asks (c .loading .pending) bytes ≡ false
+    → command (c .chip .capacity) p1 bytes (record { load = c .loading; area = area })
+      ≡ thence (run (c .chip .capacity) bytes between (record { load = c .loading; area = area })) (atEnd (theEnd p1))
+command-sound c area p1 bytes h q =
+    let m : (n : ℕ) × Misses (c .loading .pending) n = sound-misses c h in
+    command-run (c .chip .capacity) p1 (m .0) bytes (record { load = c .loading; area = area }) (m .1) q

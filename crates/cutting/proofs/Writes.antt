@@ -1,13 +1,12 @@
 -- What the writer accepts, and that the card takes what it writes: demand 2's return over `writeOf`, `freshOf` and `runOf`.
-use Prim.Native.Nat.{ℕ, zero, suc, _+_, _*_, _≤_, _<_}
-use mathlib.Core.Path.{_≡_, refl, sym, ap, _∙_, subst}
-use mathlib.Core.Bool.{Bool, true, false, cond, not, _&&_}
-use mathlib.Core.List.{List, [], _∷_, _++_}
+use Prim.Native.Nat.{ℕ, _*_, _≤_}
+use mathlib.Core.Path.{_≡_, refl, ap, subst}
+use mathlib.Core.Bool.{Bool, true, false, cond, not}
+use mathlib.Core.List.{List}
 use native.Mathlib.Omega.{arith}
 use lib.Dec.{ltb}
 use lib.ListN.{length}
 use borrow.Author.Tests.{le-ltb, ltb-false}
-use Rattle.model.specs.declared.Made.{Made}
 use Rattle.model.specs.Stored.{chipOf, chipForm, freshCard, recordSize, areaSize}
 use Rattle.model.specs.Session.{freshOf, runOf}
 use Rattle.model.specs.Order.{orderLimit, complete, recordsFor, Writing, noWriting, writeOf}
@@ -52,7 +51,7 @@ module _ (chip order : List ℕ) (room : ℕ) where
       let f : length (recordsFor order) ≤ 45 = records-few (chipOf chip .capacity) order so short in
       record { form = form; short = short; complete-so = so; room-so = omega arith }
 
-fresh-form : (b : List ℕ) → chipForm b ≡ true → freshOf b .card ≡ freshCard (chipOf b)
+pub fresh-form : (b : List ℕ) → chipForm b ≡ true → freshOf b .card ≡ freshCard (chipOf b)
 unfolding freshOf
 fresh-form b h = rw h
 
@@ -68,3 +67,8 @@ write-taken chip a order room wordRoom e la l =
         → Taken (length (jobWith rs)) (runOf (freshOf chip .card) a wordRoom (sessionOf rs))
     by-records rs q h k =
         rw (q, fresh-form chip (h .form)) (taken-all chip a order wordRoom (h .form) (h .complete-so) la (subst (λ (x : List (List ℕ)). length (jobWith x) ≤ wordRoom) q k))
+
+-- such a session has at most 47 events
+pub job-few : (capacity : ℕ) (order : List ℕ) → complete capacity order ≡ true → length order ≤ orderLimit → length (jobWith (recordsFor order)) ≤ 47
+unfolding jobWith
+job-few capacity order so l = let f : length (recordsFor order) ≤ 45 = records-few capacity order so l in omega arith

@@ -1,7 +1,7 @@
 -- The working walk: a command's data byte by byte, so that it can be split at any byte. No contract cites it; proofs/Bridge says
 -- that it is the published one.
 use Prim.Native.Nat.{ℕ, zero, suc, _-_}
-use mathlib.Core.Bool.{Bool, true, false, cond}
+use mathlib.Core.Bool.{Bool, false, cond}
 use mathlib.Core.List.{List, [], _∷_, _++_}
 use lib.Dec.{leb}
 use lib.ListN.{length}
@@ -13,7 +13,7 @@ use Rattle.model.specs.declared.Header.the-variants.{Torn, Whole}
 use Rattle.model.specs.Rows.{rowAt}
 use Rattle.model.specs.Header.{headerOf}
 use Rattle.model.specs.Loads.{State, withTaken, withOpen, changed}
-use Rattle.model.specs.Rules.{Result, went, asked, failed, Rule, thence, _>>=_, _>>_, does, isQuery, ruleC, ruleD, ruleE, ruleF, kept, recordDone, tableByte, recordBytes, openedAs}
+use Rattle.model.specs.Rules.{went, failed, Rule, thence, _>>=_, _>>_, does, isQuery, ruleC, ruleD, ruleE, ruleF, kept, recordDone, tableByte, recordBytes, openedAs}
 
 -- Where a command's walk stands: between groupings, or in a value that may run on (the state's open value says which); in a header
 -- that is not yet whole; in a value that may not, with its row, how many bytes come after the next one, and the bytes so far.

@@ -10,6 +10,7 @@ use Rattle.model.specs.declared.Descriptor.{Descriptor}
 use Rattle.model.specs.declared.Header.{Header}
 use Rattle.model.specs.declared.Header.the-variants.{Torn, Whole}
 use Rattle.model.specs.declared.Spot.the-variants.{At}
+use Rattle.model.specs.Stored.{areaSize}
 use Rattle.model.specs.Rows.{rowOf}
 use Rattle.model.specs.Header.{headerOf}
 use Rattle.model.specs.Rules.{tagSpot}
@@ -55,7 +56,8 @@ pub record Kept (files : List Descriptor) (area : List ℕ) (g : Grouped) : Type
 abbrev pub Outside : List Descriptor → ℕ → Grouped → Type 0
 Outside files i g = (base size : ℕ) → tagSpot files (g .tag) ≡ At base size → base ≤ i → base + size ≤ i
 
--- the file area that groupings give: each value in its record, and every byte outside those records zero
+-- the file area that groupings give, and all of it: each value in its record, and every byte outside those records zero
 pub record Contents (files : List Descriptor) (gs : List Grouped) (area : List ℕ) : Type 0 where
+  pub long : length area ≡ areaSize
   pub values : Each (Kept files area) gs
   pub others : (i : ℕ) → Each (Outside files i) gs → byteAt area i ≡ 0

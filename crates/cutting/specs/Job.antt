@@ -7,7 +7,7 @@ use Rattle.model.specs.declared.Card.{Card}
 use Rattle.model.specs.declared.Chip.{Chip}
 use lib.ListN.{length, replicate}
 use Rattle.lists.specs.Bytes.{padded}
-use Rattle.model.specs.Stored.{chipOf, chipForm, recordSize, recordOf}
+use Rattle.model.specs.Stored.{chipOf, chipForm, recordSize, eventIn, recordOf}
 use Rattle.model.specs.Loads.{State}
 use Rattle.model.specs.Rules.{Result, went, asked, failed}
 use Rattle.model.specs.Command.{walk}
@@ -31,6 +31,10 @@ installRecord = recordOf (record { kind = 1; p1 = 0x0C; bytes = installData })
 
 unfoldable pub selectRecord : List ℕ
 selectRecord = recordOf (record { kind = 3; p1 = 0x00; bytes = instanceName })
+
+-- the data of a record
+abbrev pub dataIn : List ℕ → List ℕ
+dataIn r = eventIn r .bytes
 
 -- a session's bytes: INSTALL '0C', SELECT of that instance, and then some records
 unfoldable pub jobWith : List (List ℕ) → List (List ℕ)

@@ -8,7 +8,12 @@ use native.Mathlib.Numerals.{add-one}
 use native.Mathlib.Omega.{arith}
 use lib.Dec.{eqb, ltb}
 use lib.ListN.{length, set, take, drop, length-take, length-drop}
-use lib.Seq.{take-suc, take-add, getD-drop, length-take-le}
+use lib.Seq.{take-suc, take-add, getD-drop, length-take-le, drop-drop}
+use Rattle.soundness.specs.Keeps.{Ends}
+use Rattle.soundness.proofs.Inside.{Steady, fitsIn, steady-of}
+use Rattle.soundness.proofs.Parts.{sound-parts}
+use Rattle.soundness.proofs.Opened.{table-facts}
+use Rattle.soundness.proofs.Feeding.{Misses, Fed, tableBytes-fed}
 use borrow.Author.Tests.{ne-eqb, ltb-true}
 use Rattle.lists.specs.Choice.{by-cond}
 use Rattle.soundness.proofs.Tests.{and-l}
@@ -31,7 +36,7 @@ use Rattle.lists.specs.Bytes.{part, byteAt}
 use Rattle.lists.specs.Least.{rest-least, part-least, length-least}
 use Rattle.model.specs.Rules.{laid, feeding, recordBytes}
 use Prim.Native.Nat.{min}
-use Rattle.feed.specs.Steps.{stateOf}
+use Rattle.feed.specs.Steps.{stateOf, TakenTo, activeLife, Sure}
 
 module _ (tag written : ℕ) (s : State) where
   pub record-ends : (m : ℕ) → m ≡ 0 → recordDone tag written m s ≡ changed (λ l. withLast tag (withTaken 11 (withOpen Shut (l .held) l))) s
@@ -141,3 +146,60 @@ table-filled d at held m l next a o h g e =
     let n : length v ≡ 17 - held = length-take-le (at + (17 - held) - at) (drop at d) (rw length-drop (omega arith)) ∙ x in
     let k : held + (17 - held) ≡ 17 = omega arith in
     table-held v l a held m o (omega arith) ∙ rw (n, k, e)
+
+-- bytes taken up to a place: the rest of them goes on from there
+pub table-passes-on : (d : List ℕ) (at i end : ℕ) (s t : State) → at ≤ i → i ≤ end → tableBytes (part d at (i - at)) s ≡ went 0 t
+    → tableBytes (part d at (end - at)) s ≡ tableBytes (part d i (end - i)) t
+table-passes-on d at i end s t h g e =
+    let k : end - at ≡ (i - at) + (end - i) = omega arith in
+    let j : at + (i - at) ≡ i = omega arith in
+    rw (k, take-add (i - at) (end - i) (drop at d), table-append, e, drop-drop (i - at) at d, j)
+
+-- so much of the open '3100' is still missed
+pub fed-on : (d : List ℕ) (at i m : ℕ) (s t : State) → at ≤ i → i ≤ length d → i - at ≤ m → Fed 0 m s
+    → tableBytes (part d at (i - at)) s ≡ went 0 t → Fed 0 (m - (i - at)) t
+fed-on d at i m s t h g f y e =
+    let v = part d at (i - at) in
+    let n : length v ≡ i - at = length-take-le (i - at) (drop at d) (rw length-drop (omega arith)) in
+    rw (← n) (subst (Ends (λ a t. Fed 0 (m - length v) t) (Steady 0)) e (tableBytes-fed v 0 m s y (omega arith)))
+
+-- what a state that misses bytes of '3100' tells
+module _ (l : Loading) (m : ℕ) (y : Fed 0 m (stateOf l [])) where
+  pub open-facts : (held left : ℕ) → l .pending ≡ Table held left → (left ≡ m) × (held < 18) × (l .count ≤ 31) × (length (l .files) ≡ 31)
+  open-facts held left e =
+      let i = y .steady .inside in
+      let f = subst (λ (o : Open). fitsIn o (l .rows) (l .count) (take (l .count) (l .files)) ≡ true) e (i .fits) in
+      (subst (Misses m) e (y .misses), table-facts (l .rows) (l .count) held left f .part, i .count, i .room)
+
+  pub never-shut : l .pending ≡ Shut → 1 ≤ m → ⊥
+  never-shut e h = let z : m ≡ 0 = subst (Misses m) e (y .misses) in omega arith
+
+  pub never-record : (tag written left : ℕ) → l .pending ≡ Record tag written left → ⊥
+  never-record tag written left e = subst (Misses m) e (y .misses)
+
+-- what a verdict on bytes of '3100' tells
+module _ (v : Verdict) (d : List ℕ) (at end : ℕ) (s t : State) (h : TakenTo v d at end s t) where
+  pub passed-to : (i : ℕ) → v ≡ Passes i → (at < i) × (i ≤ end) × (tableBytes (part d at (i - at)) s ≡ went 0 t)
+  passed-to i e = subst (λ (x : Verdict). TakenTo x d at end s t) e h
+
+  pub refused-by : (w : ℕ) → v ≡ Refuses w → tableBytes (part d at (end - at)) s ≡ failed w t
+  refused-by w e = subst (λ (x : Verdict). TakenTo x d at end s t) e h
+
+-- an open '3100' takes what it misses, as far as the data goes
+pub table-feeds : (d : List ℕ) (at h m n : ℕ) (s : State) → n ≡ min m (length d - at)
+    → feeding (Table h m) (drop at d) s ≡ thence (tableBytes (part d at (at + n - at)) s) (λ k. went (drop (at + n) d))
+table-feeds d at h m n s e =
+    let k : at + n - at ≡ n = omega arith in
+    let v : part d at n ≡ take m (drop at d) = rw e (part-least d at m) in
+    let r : drop (at + n) d ≡ drop m (drop at d) = rw e (rest-least d at m) in
+    rw (k, v, r)
+
+-- of a sound state
+module _ (l : Loading) (a : List ℕ) (k : Sure l a) where
+  pub sure-table : (h m : ℕ) → l .pending ≡ Table h m → Fed 0 m (stateOf l [])
+  sure-table h m e =
+      let y = steady-of activeLife areaSize (stateOf l a) refl k in
+      record { steady = record { inside = y .inside; some = y .some; area = refl }; misses = subst (Misses m) (sym e) refl }
+
+  pub sure-count : l .count ≤ 31
+  sure-count = sound-parts activeLife l (k .sound) .count

@@ -32,7 +32,6 @@ module _ (z : Hiding) where
       by-cond (λ (v : List ℕ). byteAt v 0 ≡ byteAt r 0) (playable c a room r) (λ _. byte-kept 4 0 (viewRecord z c a r) r (head-seen c a r) (lit< tt)) (λ _. refl)
 
   line-seen : (n kind number word : ℕ) (c : Card) → lineOf n kind number word (veil z c) ≡ lineOf n kind number word c
-  unfolding lineOf
   line-seen n kind number word c = refl
 
   abbrev printed : ℕ → ℕ → Turn → List (List ℕ) → List ℕ

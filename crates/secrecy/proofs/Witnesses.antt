@@ -6,24 +6,32 @@ use mathlib.Core.List.{List, [], _∷_, _++_}
 use lib.Dec.{T}
 use lib.ListN.{replicate}
 use Rattle.lists.specs.Bytes.{same, zeros}
+use Rattle.model.specs.declared.Life.{Life}
 use Rattle.model.specs.Stored.{Event, recordOf}
+use Rattle.model.specs.Events.{withLife}
 use Rattle.model.proofs.Computed.{computed}
 use Rattle.model.proofs.Scenes.{Bytes, event, install, select, command, serial, startup, counter, key, table, df, linear, begun, asked, loaded, turns, endOf}
 use Rattle.secrecy.specs.View.{every, secretMarks, marksWalk, marksCommand, marksIn, view, viewRecord}
 
--- a record that comes after a session of a fresh card of capacity 10, and what may be seen of it
+-- a record that comes after a session of a fresh card of capacity 10, of which the card's life cycle is then made another, and what may be
+-- seen of the record
 pub record Case : Type 0 where
   pub before : List Event
+  pub forced : Life → Life
   pub given : Bytes
   pub shown : Bytes
 
--- the view hides these bytes of a command's data, so that it looks like that
+-- the view hides bytes of a command's data, so that it looks like that
 abbrev hidden : List Event → Bytes → Bytes → Case
-hidden es d v = record { before = es; given = recordOf (command 0x00 d); shown = recordOf (command 0x00 v) }
+hidden es d v = record { before = es; forced = λ l. l; given = recordOf (command 0x00 d); shown = recordOf (command 0x00 v) }
 
 -- the view leaves the record as it is
 abbrev left : List Event → Bytes → Case
-left es r = record { before = es; given = r; shown = r }
+left es r = record { before = es; forced = λ l. l; given = r; shown = r }
+
+-- so too where no session comes to: personalizing, but not selected; or selected, but locked
+abbrev leftAt : ℕ → Bool → List Event → Bytes → Case
+leftAt g sel es r = record { before = es; forced = λ l. record { gp = g; selected = sel; name = l .name; namelen = l .namelen }; given = r; shown = r }
 
 -- '3800' or '410n' with its value hidden
 abbrev blank : ℕ → ℕ → ℕ → Bytes
@@ -58,6 +66,8 @@ cases =
     ∷ hidden (asked [])
     (toSecrets ++ key 0x38 0x00 5 ++ key 0x41 0x01 5 ++ key 0x41 0x02 5 ++ key 0x41 0x03 5 ++ key 0x41 0x04 5 ++ 0x08 ∷ 0x01 ∷ 2 ∷ 0x5C ∷ 0x5C ∷ [])
     (toSecrets ++ blank 0x38 0x00 5 ++ blank 0x41 0x01 5 ++ blank 0x41 0x02 5 ++ blank 0x41 0x03 5 ++ blank 0x41 0x04 5 ++ 0x08 ∷ 0x01 ∷ 2 ∷ 0x5C ∷ 0x5C ∷ [])
+    -- behind the rest of a table that the command before began
+    ∷ hidden (asked (command 0x00 (serial ++ startup 10 ++ 0x31 ∷ 0x00 ∷ 36 ∷ df 0) ∷ [])) (linear ++ key 0x38 0x00 5) (linear ++ blank 0x38 0x00 5)
     -- passed, and kept, though a later grouping fails: row taken, length 65, cut short, unknown tag, torn header
     ∷ hidden due41 (key 0x41 0x01 5 ++ key 0x41 0x01 5) (blank 0x41 0x01 5 ++ key 0x41 0x01 5)
     ∷ hidden due41 (key 0x41 0x01 5 ++ key 0x41 0x02 65) (blank 0x41 0x01 5 ++ key 0x41 0x02 65)
@@ -82,6 +92,8 @@ cases =
     ∷ left (asked (command 0x00 (toSecrets ++ key 0x38 0x00 16) ∷ select ∷ [])) (stores secretData)
     ∷ left (begun (event 7 0 [] ∷ [])) (stores (key 0x38 0x00 5))
     ∷ left (install 0x0C ∷ []) (stores (key 0x38 0x00 5))
+    ∷ leftAt 0x07 false due41 (stores secretData)
+    ∷ leftAt 0x87 true due41 (stores secretData)
     -- left: refused by 4 and by 5; another kind
     ∷ left due41 (9 ∷ 0 ∷ 0 ∷ 8 ∷ secretData ++ zeros 248)
     ∷ left due41 (2 ∷ 0 ∷ 0 ∷ 8 ∷ secretData ++ zeros 247 ++ 1 ∷ [])
@@ -92,7 +104,9 @@ cases =
     ∷ []
 
 unfoldable pub holds : Case → Bool
-holds x = let t = endOf (turns 10 (x .before)) in same (viewRecord every (t .card) (t .area) (x .given)) (x .shown)
+holds x =
+    let t = endOf (turns 10 (x .before)) in
+    same (viewRecord every (withLife (x .forced (t .card .life)) (t .card)) (t .area) (x .given)) (x .shown)
 
 unfoldable pub allHold : List Case → Bool
 allHold [] = true

@@ -1,13 +1,372 @@
-// Whether a state is sound, clause by clause.
+// Whether a state is sound: a function for each clause, in the paper's order.
 use model::Card;
-
+use model::Descriptor;
+use model::Life;
+use model::Loading;
+use model::Open;
+use model::Secret;
+use model::Spot;
 ghost use mathlib.Core.Path.{_≡_};
+ghost use mathlib.Core.Bool.{_&&_, _||_};
+ghost use Prim.Native.Nat.{_≤_};
+ghost use lib.Dec.{eqb};
 ghost use lib.ListN.{length};
-ghost use Rattle.model.specs.Sound.{sound};
+ghost use Rattle.model.specs.Rows.{taken};
+ghost use Rattle.model.specs.Loads.{fileList};
+ghost use Rattle.model.specs.Rules.{tagSpot};
+ghost use Rattle.model.specs.Sound.{gpOk, internalOk, nameOk, selectedOk, descriptorsOk, rowsOk, tableOpen, tablePlaced, secretsOk, tableFits, recordFits, pendingFits, someMissing, openOk, sound};
+ghost use Rattle.sound.specs.Parts.{lifePart, loadPart, openPart};
 
-// Sound; and the table has its 31 places.
+const NAME_LEAST: usize = 5;
+
+const NAME_MOST: usize = 16;
+
+const TABLE_LIMIT: usize = 31;
+
+// The first bit past those of rows 1 to 11.
+const PAST_ROWS: u16 = 0x0800;
+
+const TABLE_ROW: usize = 5;
+
+const SECRET_COUNT: usize = 5;
+
+const SECRET_ROOM: usize = 64;
+
+const DESCRIPTOR_SIZE: usize = 18;
+
+const TABLE_ROOM: usize = 558;
+
+// GP among '00', '03', '07', '83', '87'.
+fn gp_ok(g: u8) -> bool
+    ensures { λ r. ⌜ r ≡ gpOk g ⌝ }
+{
+    if g == 0x00 {
+        return true;
+    }
+    if g == 0x03 {
+        return true;
+    }
+    if g == 0x07 {
+        return true;
+    }
+    if g == 0x83 {
+        return true;
+    }
+    g == 0x87
+}
+
+fn is_07_or_87(g: u8) -> bool
+    ensures { λ r. ⌜ r ≡ (eqb g 0x07 || eqb g 0x87) ⌝ }
+{
+    if g == 0x07 {
+        return true;
+    }
+    g == 0x87
+}
+
+// Internal 'CC', or '5A' or 'A5' with '07' or '87'.
+fn internal_ok(i: u8, g: u8) -> bool
+    ensures { λ r. ⌜ r ≡ internalOk i g ⌝ }
+{
+    if i == 0xCC {
+        return true;
+    }
+    if i == 0x5A {
+        return is_07_or_87(g);
+    }
+    if i == 0xA5 {
+        return is_07_or_87(g);
+    }
+    false
+}
+
+// Name length 5 to 16, or 0 exactly when absent.
+fn name_ok(n: usize, g: u8) -> bool
+    ensures { λ r. ⌜ r ≡ nameOk n g ⌝ }
+{
+    if g == 0x00 {
+        return n == 0;
+    }
+    if n < NAME_LEAST {
+        return false;
+    }
+    n <= NAME_MOST
+}
+
+// Selected only at '07', and always at '07' with '5A'.
+fn selected_ok(sel: bool, g: u8, i: u8) -> bool
+    ensures { λ r. ⌜ r ≡ selectedOk sel g i ⌝ }
+{
+    if g == 0x07 {
+        if sel {
+            return true;
+        }
+        return i != 0x5A;
+    }
+    !sel
+}
+
+// The table's places.
+fn places(files: [Descriptor; 31]) -> usize
+    ensures { λ r. ⌜ (r ≡ 31) × (length files ≡ 31) ⌝ }
+{
+    TABLE_LIMIT
+}
+
+// Descriptors that each pass after those before.
+fn descriptors_ok(l: Loading) -> bool
+    requires { ⌜ l .count ≤ 31 ⌝ }
+    ensures { λ r. ⌜ r ≡ descriptorsOk l ⌝ }
+{
+    let files = l.files;
+    table::table_passes(files, l.count)
+}
+
+// Rows 1 to 11 only, none when absent.
+fn rows_ok(rows: u16, g: u8) -> bool
+    ensures { λ r. ⌜ r ≡ rowsOk rows g ⌝ }
+{
+    if PAST_ROWS <= rows {
+        return false;
+    }
+    if rows == 0 {
+        return true;
+    }
+    g != 0x00
+}
+
+fn table_open(o: Open) -> bool
+    ensures { λ r. ⌜ r ≡ tableOpen o ⌝ }
+{
+    match o {
+        Open::Shut => false,
+        Open::Table {
+            held: _,
+            missing: _,
+        } => true,
+        Open::Record {
+            tag: _,
+            written: _,
+            missing: _,
+        } => false,
+    }
+}
+
+// Descriptors only where row 5 is taken, '3100' is open, or the card is locked in '5A'.
+fn table_placed(l: Loading, g: u8) -> bool
+    ensures { λ r. ⌜ r ≡ tablePlaced l g ⌝ }
+{
+    let o = l.pending;
+    if l.count == 0 {
+        return true;
+    }
+    if rows::is_taken(l.rows, TABLE_ROW) {
+        return true;
+    }
+    if table_open(o) {
+        return true;
+    }
+    if l.internal == 0x5A {
+        return g == 0x87;
+    }
+    false
+}
+
+// Secrets at most 64 bytes.
+fn secrets_ok(secrets: [Secret; 5]) -> bool
+    ensures { λ r. ⌜ r ≡ secretsOk secrets ⌝ }
+{
+    let mut i: usize = 0;
+    while i < SECRET_COUNT {
+        let x = secrets[i];
+        if SECRET_ROOM < x.len {
+            return false;
+        }
+        i += 1;
+    }
+    true
+}
+
+fn is_07_with_5a(g: u8, i: u8) -> bool
+    ensures { λ r. ⌜ r ≡ (eqb g 0x07 && eqb i 0x5A) ⌝ }
+{
+    if g == 0x07 {
+        return i == 0x5A;
+    }
+    false
+}
+
+// An open value only at '07' with '5A'.
+fn open_ok(o: Open, g: u8, i: u8) -> bool
+    ensures { λ r. ⌜ r ≡ openOk o g i ⌝ }
+{
+    match o {
+        Open::Shut => true,
+        Open::Table {
+            held: _,
+            missing: _,
+        } => is_07_with_5a(g, i),
+        Open::Record {
+            tag: _,
+            written: _,
+            missing: _,
+        } => is_07_with_5a(g, i),
+    }
+}
+
+// Descriptors x 18 + held + missing at most 558 and a multiple of 18, held under 18: each is bounded before the sum.
+fn table_fits(count: usize, held: usize, missing: usize) -> bool
+    ensures { λ r. ⌜ r ≡ tableFits count held missing ⌝ }
+{
+    if DESCRIPTOR_SIZE <= held {
+        return false;
+    }
+    if TABLE_LIMIT < count {
+        return false;
+    }
+    if TABLE_ROOM < missing {
+        return false;
+    }
+    let all = count * DESCRIPTOR_SIZE + held + missing;
+    if TABLE_ROOM < all {
+        return false;
+    }
+    all % DESCRIPTOR_SIZE == 0
+}
+
+// Row 5 not taken, and the table fits.
+fn open_table_fits(l: Loading, held: usize, missing: usize) -> bool
+    ensures { λ r. ⌜ r ≡ pendingFits (Open.Table held missing) l ⌝ }
+{
+    if rows::is_taken(l.rows, TABLE_ROW) {
+        return false;
+    }
+    table_fits(l.count, held, missing)
+}
+
+// The place of the record that a tag names (rule e).
+fn spot_at(l: Loading, tag: u16) -> Spot
+    requires { ⌜ l .count ≤ 31 ⌝ }
+    ensures { λ r. ⌜ r ≡ tagSpot (fileList l) tag ⌝ }
+{
+    let files = l.files;
+    let sfi = (tag / 256) as u8;
+    let nn = (tag % 256) as u8;
+    table::spot_of(files, l.count, sfi, nn)
+}
+
+// An 'ssnn' that rule e passes, written + missing at most its record.
+fn record_fits(spot: Spot, written: usize, missing: usize) -> bool
+    ensures { λ r. ⌜ r ≡ recordFits spot written missing ⌝ }
+{
+    match spot {
+        Spot::Nowhere => false,
+        Spot::At { base: _, size } => {
+            if size < written {
+                return false;
+            }
+            missing <= size - written
+        }
+    }
+}
+
+fn open_record_fits(l: Loading, tag: u16, written: usize, missing: usize) -> bool
+    requires { ⌜ l .count ≤ 31 ⌝ }
+    ensures { λ r. ⌜ r ≡ pendingFits (Open.Record tag written missing) l ⌝ }
+{
+    let spot = spot_at(l, tag);
+    record_fits(spot, written, missing)
+}
+
+// Either '3100' or an 'ssnn', and it fits.
+fn pending_fits(o: Open, l: Loading) -> bool
+    requires { ⌜ l .count ≤ 31 ⌝ }
+    ensures { λ r. ⌜ r ≡ pendingFits o l ⌝ }
+{
+    match o {
+        Open::Shut => true,
+        Open::Table { held, missing } => open_table_fits(l, held, missing),
+        Open::Record {
+            tag,
+            written,
+            missing,
+        } => open_record_fits(l, tag, written, missing),
+    }
+}
+
+// Missing at least 1 in both.
+fn some_missing(o: Open) -> bool
+    ensures { λ r. ⌜ r ≡ someMissing o ⌝ }
+{
+    match o {
+        Open::Shut => true,
+        Open::Table { held: _, missing } => 1 <= missing,
+        Open::Record {
+            tag: _,
+            written: _,
+            missing,
+        } => 1 <= missing,
+    }
+}
+
+// The clauses on GP, internal, name and selected.
+fn life_ok(f: Life, i: u8) -> bool
+    ensures { λ r. ⌜ r ≡ lifePart f i ⌝ }
+{
+    let g = f.gp;
+    if gp_ok(g) {
+        if internal_ok(i, g) {
+            if name_ok(f.namelen, g) {
+                return selected_ok(f.selected, g, i);
+            }
+        }
+    }
+    false
+}
+
+// The clauses on rows, the table's place and secrets.
+fn load_ok(l: Loading, g: u8) -> bool
+    ensures { λ r. ⌜ r ≡ loadPart l g ⌝ }
+{
+    let secrets = l.secrets;
+    if rows_ok(l.rows, g) {
+        if table_placed(l, g) {
+            return secrets_ok(secrets);
+        }
+    }
+    false
+}
+
+// The clauses on an open value.
+fn value_ok(l: Loading, g: u8) -> bool
+    requires { ⌜ l .count ≤ 31 ⌝ }
+    ensures { λ r. ⌜ r ≡ openPart l g ⌝ }
+{
+    let o = l.pending;
+    if open_ok(o, g, l.internal) {
+        if some_missing(o) {
+            return pending_fits(o, l);
+        }
+    }
+    false
+}
+
+// Sound; and the table has its 31 places. Its rules, which cost the most, are asked last.
 pub fn is_sound(c: Card) -> bool
     ensures { λ r. ⌜ (r ≡ sound c) × (length (c .loading .files) ≡ 31) ⌝ }
 {
+    let f = c.life;
+    let l = c.loading;
+    let files = l.files;
+    if places(files) < l.count {
+        return false;
+    }
+    if life_ok(f, l.internal) {
+        if load_ok(l, f.gp) {
+            if value_ok(l, f.gp) {
+                return descriptors_ok(l);
+            }
+        }
+    }
     false
 }

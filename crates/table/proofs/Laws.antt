@@ -27,6 +27,7 @@ bytes-product {a} {b} ha hb =
     let q : b ≤ 255 = omega arith in
     mul-le-mul p q
 
+-- within the list, what would be read past its end does not matter
 pub getD-any : {A : Type 0} (l : List A) (i : ℕ) (z w : A) → i < length l → getD l i z ≡ getD l i w
 getD-any [] i z w h = absurd (omega arith)
 getD-any (x ∷ xs) zero z w h = refl
@@ -51,7 +52,7 @@ module _ (l : List Descriptor) (n : ℕ) (fits : n ≤ length l) (i : ℕ) where
   unfolding counterAmong
   counter-end d h = rw (rest-none l n fits i h)
 
-  pub total-step : i < n → total (drop i (take n l)) ≡ sizeOf (getD l i pastEnd) + total (drop (i + 1) (take n l))
+  total-step : i < n → total (drop i (take n l)) ≡ sizeOf (getD l i pastEnd) + total (drop (i + 1) (take n l))
   unfolding total
   total-step h = rw (rest-cons l n fits i pastEnd h)
 
@@ -64,7 +65,7 @@ module _ (l : List Descriptor) (n : ℕ) (fits : n ≤ length l) (i : ℕ) where
   unfolding total
   total-end h = rw (rest-none l n fits i h)
 
-  pub spot-step : (base sfi nn : ℕ) → i < n
+  spot-step : (base sfi nn : ℕ) → i < n
       → spotFrom (drop i (take n l)) base sfi nn
       ≡ cond (eqb (getD l i pastEnd .sfi) sfi) (spotIn (getD l i pastEnd) base nn)
       (spotFrom (drop (i + 1) (take n l)) (base + sizeOf (getD l i pastEnd)) sfi nn)

@@ -49,4 +49,3 @@ installed-spec =
     returns
     returns-2
     returns-3)
--- t

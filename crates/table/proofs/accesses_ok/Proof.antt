@@ -42,7 +42,12 @@ access-ok-requires-4 c κs = search needs
 returns : tie.Need-returns
 returns c =
     let b = c .before .before .before .before .before in
-    rw (sym (b .before .access-ok .ensures) ∙ b .if1 .taken, sym (c .before .before .before .before .access-ok2 .ensures) ∙ c .before .before .before .if2 .taken, sym (c .before .before .access-ok3 .ensures) ∙ c .before .if3 .taken) (c .access-ok4 .ensures)
+    rw (
+      sym (b .before .access-ok .ensures) ∙ b .if1 .taken,
+      sym (c .before .before .before .before .access-ok2 .ensures) ∙ c .before .before .before .if2 .taken,
+      sym (c .before .before .access-ok3 .ensures) ∙ c .before .if3 .taken,
+    )
+    (c .access-ok4 .ensures)
 
 returns-2 : tie.Need-returns-2
 returns-2 c =

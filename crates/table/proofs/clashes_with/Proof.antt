@@ -44,7 +44,8 @@ loop-again c =
     let l = c .before .before .before .before .loop in
     let a = c .before .before .before .before .before .args in
     let fits : a .count ≤ length (a .t2) = search needs in
-    (omega arith, l .inv .1 ∙ clashes-step (a .t2) (a .count) fits (l .i) (a .d) (omega arith) ∙ simp (← c .before .clash-of .ensures, c .if1 .left))
+    let step = clashes-step (a .t2) (a .count) fits (l .i) (a .d) (omega arith) in
+    (omega arith, l .inv .1 ∙ step ∙ simp (← c .before .clash-of .ensures, c .if1 .left))
 
 returns-2 : tie.Need-returns-2 Inv-loop μ-loop
 returns-2 c =

@@ -32,7 +32,8 @@ mul-result-2 c =
 returns-3 : tie.Need-returns-3
 returns-3 c =
     let b = c .before .before .before .before in
-    (rw (b .wide2 .ensures .0, b .before .wide .ensures .0) (search cases), omega (arith, bytes-product (b .before .wide .ensures .1) (b .wide2 .ensures .1)))
+    let product = bytes-product (b .before .wide .ensures .1) (b .wide2 .ensures .1) in
+    (rw (b .wide2 .ensures .0, b .before .wide .ensures .0) (search cases), omega arith)
 
 pub size-of-spec : {M : Type 1} → statement M
 size-of-spec =

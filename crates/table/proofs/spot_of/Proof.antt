@@ -56,9 +56,12 @@ loop-again : tie.Need-loop-again Inv-loop μ-loop
 loop-again c =
     let l = c .before .before .before .before .before .loop in
     let a = c .before .before .before .before .before .before .before .args in
-    let fits : a .count ≤ length (a .t1) = search needs in
-    let more = spot-more (a .t1) (a .count) fits (l .i) (l .base) (a .sfi) (a .nn) (c .size-of .result) (omega arith) in
-    (omega arith, omega arith, more (c .size-of .ensures .0) (c .before .if2 .left) (l .inv .2))
+    let fits : a .count ≤ length (a .t1) = search needs in (
+      omega arith,
+      omega arith,
+      spot-more (a .t1) (a .count) fits (l .i) (l .base) (a .sfi) (a .nn) (c .size-of .result) (omega arith)
+          (c .size-of .ensures .0) (c .before .if2 .left) (l .inv .2),
+    )
 
 returns-3 : tie.Need-returns-3 Inv-loop μ-loop
 returns-3 c =

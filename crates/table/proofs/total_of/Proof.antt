@@ -41,7 +41,8 @@ loop-again c =
     let l = b .before .loop in
     let a = b .before .before .args in
     let fits : a .count ≤ length (a .t1) = search needs in
-    (omega arith, omega arith, total-more (a .t1) (a .count) fits (l .i) (l .sum) (c .size-of .result) (b .loop-test .taken) (c .size-of .ensures .0) (l .inv .2))
+    let more = total-more (a .t1) (a .count) fits (l .i) (l .sum) (c .size-of .result) (b .loop-test .taken) in
+    (omega arith, omega arith, more (c .size-of .ensures .0) (l .inv .2))
 
 returns : tie.Need-returns Inv-loop μ-loop
 returns c =

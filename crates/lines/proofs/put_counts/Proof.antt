@@ -1,0 +1,80 @@
+use Prim.Native.Nat.{ℕ, suc, _+_, _*_, _-_, _≤_, _<_, _/_, _%_}
+use mathlib.Core.Path.{_≡_, refl, ap, sym, _∙_}
+use mathlib.Core.List.{List, [], _∷_, _++_}
+use native.Mathlib.Omega.{arith}
+use native.Mathlib.Numerals.{add-one}
+use lib.ListN.{length, take, drop, set, getD, length-set, length-take, length-drop, length-append}
+use denote.Ref.{now}
+use borrow.Author.Needs.{needs}
+use Rattle.model.specs.Lines.{five, two}
+use Rattle.lists.specs.Over.{length-over}
+use Rattle.lines.proofs.Runs.{run-fields}
+use Rattle.lines.proofs.put_counts.Statement.{statement}
+use Rattle.lines.proofs.put_counts.Tie as tie
+use Rattle.lines.proofs.put_counts.Reads as reads
+use Rattle.lines.proofs.put_counts.Lts as lts
+use Rattle.lines.proofs.put_five.Reads as put-five-reads
+use Rattle.lines.proofs.put_two.Reads as put-two-reads
+
+put-five-requires : tie.Need-put-five-requires
+put-five-requires c κs = search needs
+
+add-out : tie.Need-add-out
+add-out c = search needs
+
+slice-write-out : tie.Need-slice-write-out
+slice-write-out c = search needs
+
+add-put-two : tie.Need-add-put-two
+add-put-two c = search needs
+
+put-two-requires : tie.Need-put-two-requires
+put-two-requires c κs = simp length-set (omega arith)
+
+add-out-2 : tie.Need-add-out-2
+add-out-2 c = search needs
+
+slice-write-out-2 : tie.Need-slice-write-out-2
+slice-write-out-2 c = rw (c .before .before .put-two .ensures, length-over, length-set) (omega arith)
+
+add-put-two-2 : tie.Need-add-put-two-2
+add-put-two-2 c = search needs
+
+put-two-requires-2 : tie.Need-put-two-requires-2
+put-two-requires-2 c κs = ?
+
+add-out-3 : tie.Need-add-out-3
+add-out-3 c = search needs
+
+slice-write-out-3 : tie.Need-slice-write-out-3
+slice-write-out-3 c = ?
+
+same-length : tie.Need-same-length
+same-length c = ?
+
+returns : tie.Need-returns
+returns c =
+    let u = c .before .before .before .before .before .before in
+    let v = u .before .before .before .before in
+    let a = v .before .before .before .args in
+    rw (c .before .before .put-two2 .ensures, u .put-two .ensures, v .put-five .ensures)
+    (run-fields (now (a .out)) (five (a .n)) (two (a .kind)) (two (a .number)) (a .at) (a .at + 5) (a .at + 6) (a .at + 8) (a .at + 9) (a .at + 11) 32 32 32
+    refl (omega arith) (omega arith) (omega arith) (omega arith))
+
+pub put-counts-spec : {M : Type 1} → statement M
+put-counts-spec =
+    tie.close
+    (tie.spec
+    put-five-requires
+    add-out
+    slice-write-out
+    add-put-two
+    put-two-requires
+    add-out-2
+    slice-write-out-2
+    add-put-two-2
+    put-two-requires-2
+    add-out-3
+    slice-write-out-3
+    same-length
+    returns)

@@ -1,0 +1,51 @@
+use Prim.Native.Nat.{ℕ, suc, _+_, _*_, _-_, _≤_, _<_, _/_, _%_}
+use mathlib.Core.Path.{_≡_, refl, ap, sym, _∙_}
+use mathlib.Core.List.{List, [], _∷_, _++_}
+use native.Mathlib.Omega.{arith}
+use native.Mathlib.Numerals.{add-one}
+use lib.ListN.{length, take, drop, set, getD, length-set, length-take, length-drop, length-append}
+use denote.Ref.{now}
+use borrow.Author.Needs.{needs}
+use Rattle.lines.proofs.put_end.Statement.{statement}
+use Rattle.lines.proofs.put_end.Tie as tie
+use Rattle.lines.proofs.put_end.Reads as reads
+use Rattle.lines.proofs.put_end.Lts as lts
+use Rattle.lines.proofs.put_five.Reads as put-five-reads
+use Rattle.slices.proofs.put_bytes.Reads as put-bytes-reads
+
+slice-aggregate-put-bytes : tie.Need-slice-aggregate-put-bytes
+slice-aggregate-put-bytes c = search needs
+
+put-bytes-requires : tie.Need-put-bytes-requires
+put-bytes-requires c κs = search needs
+
+add-put-five : tie.Need-add-put-five
+add-put-five c = search needs
+
+put-five-requires : tie.Need-put-five-requires
+put-five-requires c κs = search needs
+
+add-out : tie.Need-add-out
+add-out c = search needs
+
+slice-write-out : tie.Need-slice-write-out
+slice-write-out c = search needs
+
+same-length : tie.Need-same-length
+same-length c = ?
+
+returns : tie.Need-returns
+returns c = ?
+
+pub put-end-spec : {M : Type 1} → statement M
+put-end-spec =
+    tie.close
+    (tie.spec
+    slice-aggregate-put-bytes
+    put-bytes-requires
+    add-put-five
+    put-five-requires
+    add-out
+    slice-write-out
+    same-length
+    returns)

@@ -1,0 +1,52 @@
+use Prim.Native.Nat.{ℕ, suc, _+_, _*_, _-_, _≤_, _<_, _/_, _%_}
+use mathlib.Core.Path.{_≡_, refl, ap, sym, _∙_}
+use mathlib.Core.List.{List, [], _∷_, _++_}
+use native.Mathlib.Omega.{arith}
+use native.Mathlib.Numerals.{add-one}
+use lib.ListN.{length, take, drop, set, getD, length-set, length-take, length-drop, length-append}
+use denote.Ref.{now}
+use borrow.Author.Needs.{needs}
+use Rattle.model.specs.Lines.{hex2}
+use Rattle.lines.proofs.Runs.{run-more}
+use Rattle.lines.proofs.put_hex4.Statement.{statement}
+use Rattle.lines.proofs.put_hex4.Tie as tie
+use Rattle.lines.proofs.put_hex4.Reads as reads
+use Rattle.lines.proofs.put_hex4.Lts as lts
+use Rattle.lines.proofs.put_hex2.Reads as put-hex2-reads
+
+cast-put-hex2 : tie.Need-cast-put-hex2
+cast-put-hex2 c = search needs
+
+put-hex2-requires : tie.Need-put-hex2-requires
+put-hex2-requires c κs = search needs
+
+add-put-hex2 : tie.Need-add-put-hex2
+add-put-hex2 c = search needs
+
+cast-put-hex2-2 : tie.Need-cast-put-hex2-2
+cast-put-hex2-2 c = search needs
+
+put-hex2-requires-2 : tie.Need-put-hex2-requires-2
+put-hex2-requires-2 c κs = search needs
+
+same-length : tie.Need-same-length
+same-length c = search needs
+
+returns : tie.Need-returns
+returns c =
+    let a = c .before .before .before .before .before .before .before .before .before .args in
+    c .before .before .put-hex22 .ensures
+    ∙ rw (c .before .before .before .before .before .before .put-hex2 .ensures)
+    (run-more (now (a .out)) (hex2 (a .w / 256)) (hex2 (a .w % 256)) (a .at) (a .at + 2) refl)
+
+pub put-hex4-spec : {M : Type 1} → statement M
+put-hex4-spec =
+    tie.close
+    (tie.spec
+    cast-put-hex2
+    put-hex2-requires
+    add-put-hex2
+    cast-put-hex2-2
+    put-hex2-requires-2
+    same-length
+    returns)

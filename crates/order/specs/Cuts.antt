@@ -1,0 +1,42 @@
+-- The cut of an order, from a place on.
+use Prim.Native.Nat.{ℕ, _+_, _-_, _≤_, _<_}
+use mathlib.Core.Path.{_≡_}
+use mathlib.Core.Bool.{cond}
+use mathlib.Core.List.{List, [], _∷_, _++_}
+use lib.Dec.{ltb}
+use lib.ListN.{length, drop}
+use Rattle.lists.specs.Bytes.{part}
+use Rattle.model.specs.Stored.{dataRoom}
+use Rattle.model.specs.Order.{single, unitsIn, packed}
+use Rattle.order.specs.declared.Place.{Place}
+
+-- lists of bytes end to end
+unfoldable pub joined : List (List ℕ) → List ℕ
+joined [] = []
+joined (u ∷ us) = u ++ joined us
+
+-- every unit fits in a command of its own
+pub data Fitting : List (List ℕ) → Type 0 where
+  none : Fitting []
+  more : {u : List ℕ} {us : List (List ℕ)} → length u ≤ dataRoom → Fitting us → Fitting (u ∷ us)
+
+-- an order that can be cut: each of its units fits in a command
+unfoldable pub cuttable : List ℕ → Type 0
+cuttable order = Fitting (unitsIn (length order) order)
+
+-- the units from a place on
+unfoldable pub unitsFrom : List ℕ → Place → List (List ℕ)
+unitsFrom order p = single (part order (p .at) (p .inside)) ++ unitsIn (length order) (drop (p .at + p .inside) order)
+
+-- the commands from a place on where one begins; at the order's end there are none
+unfoldable pub commandsFrom : List ℕ → Place → List (List ℕ)
+commandsFrom order p = cond (ltb (p .at) (length order)) (packed [] (unitsFrom order p)) []
+
+-- a command of the cut: where it begins and where it ends
+pub record Command (order : List ℕ) (start end : Place) : Type 0 where
+  pub forth : start .at ≤ end .at
+  pub within : end .at ≤ length order
+  pub room : end .at ≤ start .at + dataRoom
+  pub moves : start .at < length order → start .at < end .at
+  pub cut : packed [] (unitsFrom order start) ≡ part order (start .at) (end .at - start .at) ∷ commandsFrom order end
+  pub fitting : Fitting (unitsFrom order end)

@@ -1,0 +1,3 @@
+-- An order's cutting, as code walks it: by steps from a place, command by command.
+pub mod Steps
+pub mod Cuts

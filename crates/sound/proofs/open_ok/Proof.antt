@@ -1,0 +1,50 @@
+use Prim.Native.Nat.{ℕ, suc, _+_, _*_, _-_, _≤_, _<_, _/_, _%_}
+use mathlib.Core.Path.{_≡_, refl, ap, sym, _∙_}
+use mathlib.Core.List.{List, [], _∷_, _++_}
+use native.Mathlib.Omega.{arith}
+use native.Mathlib.Numerals.{add-one}
+use lib.ListN.{length, take, drop, set, getD, length-set, length-take, length-drop, length-append}
+use denote.Ref.{now}
+use borrow.Author.Needs.{needs}
+use Rattle.sound.proofs.open_ok.Statement.{statement}
+use Rattle.sound.proofs.open_ok.Tie as tie
+use Rattle.sound.proofs.open_ok.Reads as reads
+use Rattle.sound.proofs.open_ok.Lts as lts
+use Rattle.sound.proofs.is_07_with_5a.Reads as is-07-with-5a-reads
+
+enum-told : tie.Need-enum-told
+enum-told c = search needs
+
+enum-told-2 : tie.Need-enum-told-2
+enum-told-2 c = search needs
+
+is-07-with-5a-requires : tie.Need-is-07-with-5a-requires
+is-07-with-5a-requires c κs = search needs
+
+enum-told-3 : tie.Need-enum-told-3
+enum-told-3 c = search needs
+
+is-07-with-5a-requires-2 : tie.Need-is-07-with-5a-requires-2
+is-07-with-5a-requires-2 c κs = search needs
+
+returns : tie.Need-returns
+returns c = search needs
+
+returns-2 : tie.Need-returns-2
+returns-2 c = ?
+
+returns-3 : tie.Need-returns-3
+returns-3 c = ?
+
+pub open-ok-spec : {M : Type 1} → statement M
+open-ok-spec =
+    tie.close
+    (tie.spec
+    enum-told
+    enum-told-2
+    is-07-with-5a-requires
+    enum-told-3
+    is-07-with-5a-requires-2
+    returns
+    returns-2
+    returns-3)
