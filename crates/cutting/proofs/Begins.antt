@@ -1,8 +1,8 @@
 -- What a whole header comes to, and how long its value may be.
 use Prim.Native.Nat.{ℕ, zero, suc, _-_, _≤_}
-use mathlib.Core.Path.{_≡_, refl, sym, _∙_, subst}
+use mathlib.Core.Path.{_≡_, refl, sym, ap, _∙_, subst}
 use mathlib.Core.Bool.{Bool, true, false, cond}
-use mathlib.Core.List.{List, [], _∷_}
+use mathlib.Core.List.{List}
 use native.Mathlib.Omega.{arith}
 use lib.Dec.{eqb, lit≤}
 use lib.ListN.{getD}
@@ -15,10 +15,9 @@ use Rattle.model.specs.Rows.{tableRow, recordRow, noRow, rowTable, rowAt, rowOf
 use Rattle.model.specs.Loads.{State, fileList, withInternal, changed}
 use Rattle.model.specs.Rules.{Result, went, failed, Rule, thence, _>>=_, _>>_, judged, unless, isQuery, ruleC, dueRow, ruleD, tagSpot, roomIn, roomOf, ruleE, lengthOk, ruleF, recordDone}
 use Rattle.model.specs.Order.{spannable}
-use Rattle.cutting.specs.Bytewise.{Part, between, opened, awaited, started, behind, begun}
-use Rattle.cutting.proofs.Opened.{Misses, shut}
-use Rattle.cutting.proofs.Values.{Closed, length-most, opened-misses}
-use Rattle.cutting.proofs.Walks.{never}
+use Rattle.cutting.specs.Bytewise.{Part, between, opened, awaited, started, behind, judgedHead, begun, Misses, shut}
+use Rattle.cutting.specs.Contents.{Each, none, more}
+use Rattle.cutting.proofs.Values.{Closed, length-most, opened-misses, never}
 use Rattle.cutting.proofs.Bridge.{passes-true}
 
 -- the three things that a whole header comes to: an error; an open value; a value that is awaited, of at most 64 bytes
@@ -28,10 +27,6 @@ pub data Begins (capacity : ℕ) (h : Head) : Result Part → Type 0 where
   awaits : (row : ℕ) (s : State) → spannable (h .tag) ≡ false → h .len ≤ 64 → Closed s → Begins capacity h (awaited capacity row (h .len) s)
 
 -- what every entry of a list has, each has that is got from it
-data Each {A : Type 0} (P : A → Type 0) : List A → Type 0 where
-  none : Each P []
-  more : {x : A} {xs : List A} → P x → Each P xs → Each P (x ∷ xs)
-
 each-get : {A : Type 0} (P : A → Type 0) {xs : List A} → Each P xs → (i : ℕ) (d : A) → P d → P (getD xs i d)
 each-get P none i d h = h
 each-get P (more p ps) zero d h = p
@@ -65,10 +60,18 @@ room-most : (x : Bool) (v : Verdict) (most room : ℕ) → x ≡ false → cond 
 room-most true v most room e q = absurd (never (sym e))
 room-most false v most room e q = cc
 
-due-row : (x y : Bool) (w z r row : ℕ) → cond x (Refuses w) (cond y (Passes r) (Refuses z)) ≡ Passes row → row ≡ r
-due-row true y w z r row q = cc
-due-row false true w z r row q = cc
-due-row false false w z r row q = cc
+pub refuses-not : (w n : ℕ) → Refuses w ≡ Passes n → ⊥
+refuses-not w n e = never (ap passes e)
+  where
+    passes : Verdict → Bool
+    passes (Passes n) = true
+    passes (Refuses w) = false
+
+-- rule d passes with the tag's row, which is due
+pub due-row : (x y : Bool) (w z r row : ℕ) → cond x (Refuses w) (cond y (Passes r) (Refuses z)) ≡ Passes row → (row ≡ r) × (y ≡ true)
+due-row true y w z r row q = absurd (refuses-not w row q)
+due-row false true w z r row q = (cc, refl)
+due-row false false w z r row q = absurd (refuses-not z row q)
 
 module _ (capacity : ℕ) (h : Head) where
   by-test : (x : Bool) (w : ℕ) (s s′ : State) (f : Rule Part) → (x ≡ false → Begins capacity h (f s′))
@@ -108,25 +111,18 @@ module _ (capacity : ℕ) (h : Head) where
   unfolding ruleE
   from-e row s e c = by-judged (roomOf (fileList (s .load)) row (h .tag)) s _ (λ room r. from-f row room s e r c)
 
-  abbrev judgedBegun : Rule Part
-  judgedBegun = do
-    row ← ruleD (h .tag)
-    room ← ruleE row (h .tag)
-    ruleF row room (h .len)
-    started capacity row h
-
-  from-d : (s : State) → Closed s → Begins capacity h (judgedBegun s)
+  from-d : (s : State) → Closed s → Begins capacity h (judgedHead capacity h s)
   unfolding ruleD dueRow
   from-d s c =
       by-judged (dueRow (s .load .rows) (s .load .last) (h .tag)) s _
-      (λ row q. from-e row s (due-row (eqb (rowOf (h .tag)) 0) (due (s .load .rows) (s .load .last) (rowOf (h .tag)) (h .tag)) 0x6A88 0x6985 (rowOf (h .tag)) row q) c)
+      (λ row q. from-e row s (due-row (eqb (rowOf (h .tag)) 0) (due (s .load .rows) (s .load .last) (rowOf (h .tag)) (h .tag)) 0x6A88 0x6985 (rowOf (h .tag)) row q .0) c)
 
   -- a whole header
   pub begins-so : (s : State) → Closed s → Begins capacity h (begun capacity h s)
   unfolding begun behind ruleC
   begins-so s c =
-      by-test (isQuery (h .tag)) 0x6A80 s s (ruleC >> judgedBegun)
-      (λ q. by-test (eqb (s .load .internal) 0xA5) 0x6985 s (changed (withInternal 0x5A) s) judgedBegun (λ g. from-d _ c))
+      by-test (isQuery (h .tag)) 0x6A80 s s (ruleC >> judgedHead capacity h)
+      (λ q. by-test (eqb (s .load .internal) 0xA5) 0x6985 s (changed (withInternal 0x5A) s) (judgedHead capacity h) (λ g. from-d _ c))
 
   -- a query behind data byte 0, or at it
   pub begun-query : (s : State) → isQuery (h .tag) ≡ true → begun capacity h s ≡ failed 0x6A80 s

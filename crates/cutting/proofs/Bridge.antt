@@ -16,7 +16,7 @@ use Rattle.model.specs.Rows.{rowAt}
 use Rattle.model.specs.Header.{headerOf}
 use Rattle.model.specs.Loads.{State, fileList, withInternal, withTaken, withOpen, changed}
 use Rattle.model.specs.Rules.{Result, went, asked, failed, Rule, thence, _>>=_, _>>_, judged, unless, does, ruleA, isQuery, aloneAtStart, query, ruleB, ruleC, dueRow, ruleD, roomOf, ruleE, lengthOk, ruleF, ruleG, kept, recordDone, recordBytes, tagSpot, fed, openedAs, spanned, whole, ruleH, grouping}
-use Rattle.cutting.specs.Bytewise.{Part, between, ending, opened, awaited, started, behind, begun, run, atEnd}
+use Rattle.cutting.specs.Bytewise.{Part, between, ending, opened, awaited, started, behind, judgedHead, begun, run, atEnd}
 use Rattle.cutting.proofs.Splits.{thence-assoc}
 use Rattle.cutting.proofs.Opened.{Leaves, laid-none, done-over, done-same, Agrees, fed-run}
 use Rattle.cutting.proofs.Heads.{run-whole, run-torn, Long, header-long}
@@ -151,21 +151,14 @@ module _ {B : Type 0} (capacity n p1 : ℕ) (k : Rule B) (K : List ℕ → Rule 
     ruleG row (h .len) (length bytes - h .size)
     ruleH capacity row h rest
 
-  abbrev judgedBegun : Rule Part
-  judgedBegun = do
-    row ← ruleD (h .tag)
-    room ← ruleE row (h .tag)
-    ruleF row room (h .len)
-    started capacity row h
-
-  from-d : (s : State) → Closed s → thence (judgedAll s) K ≡ thence (judgedBegun s) K′
+  from-d : (s : State) → Closed s → thence (judgedAll s) K ≡ thence (judgedHead capacity h s) K′
   unfolding ruleD
   from-d s o = after-judged (dueRow (s .load .rows) (s .load .last) (h .tag)) s _ _ K K′ (λ row e. from-e row s o)
 
   -- c
-  from-c : (s : State) → Closed s → thence ((ruleC >> judgedAll) s) K ≡ thence ((ruleC >> judgedBegun) s) K′
+  from-c : (s : State) → Closed s → thence ((ruleC >> judgedAll) s) K ≡ thence ((ruleC >> judgedHead capacity h) s) K′
   unfolding ruleC
-  from-c s o = after-test (eqb (s .load .internal) 0xA5) 0x6985 s (changed (withInternal 0x5A) s) judgedAll judgedBegun K K′ (λ q. from-d _ o)
+  from-c s o = after-test (eqb (s .load .internal) 0xA5) 0x6985 s (changed (withInternal 0x5A) s) judgedAll (judgedHead capacity h) K K′ (λ q. from-d _ o)
 
   -- b
   rule-b : (x y : Bool) (s : State) → (x ≡ true → y ≡ false) → (r : Result ℕ)
@@ -177,7 +170,7 @@ module _ {B : Type 0} (capacity n p1 : ℕ) (k : Rule B) (K : List ℕ → Rule 
   unfolding ruleB query begun behind Plain
   from-b s plain o =
       ap (λ (r : Result ℕ). thence (thence r (λ a. ruleC >> judgedAll)) K) (rule-b (isQuery (h .tag)) (aloneAtStart n bytes h) s plain _)
-      ∙ after-test (isQuery (h .tag)) 0x6A80 s s (ruleC >> judgedAll) (ruleC >> judgedBegun) K K′ (λ q. from-c s o)
+      ∙ after-test (isQuery (h .tag)) 0x6A80 s s (ruleC >> judgedAll) (ruleC >> judgedHead capacity h) K K′ (λ q. from-c s o)
 
 -- one grouping whose header is whole
 pub grouping-run : {B : Type 0} (capacity n p1 : ℕ) (k : Rule B) (K : List ℕ → Rule B) (a : ℕ) (d : List ℕ) (h : Head) (s : State)

@@ -19,16 +19,16 @@ use Rattle.model.specs.Loads.{State}
 use Rattle.model.specs.Rules.{Result, went, asked, failed, thence, isQuery}
 use Rattle.model.specs.Command.{walk, ready, theEnd, command}
 use Rattle.model.specs.Order.{orderLimit, challengedState, finished, complete, unitsIn, packed, cutOf, recordsFor}
-use Rattle.cutting.specs.Bytewise.{Part, between, head, value, run, atEnd, headAsks, asks}
+use Rattle.cutting.specs.Bytewise.{Part, between, head, value, run, atEnd, headAsks, asks, Misses}
 use Rattle.cutting.specs.Packs.{longestUnit, Sized, none, more}
 use Rattle.cutting.specs.Job.{stateOf, uncut}
 use Rattle.cutting.proofs.Splits.{run-after}
-use Rattle.cutting.proofs.Opened.{Misses}
 use Rattle.cutting.proofs.Heads.{run-whole}
-use Rattle.cutting.proofs.Bridge.{plain-behind}
-use Rattle.cutting.proofs.Walks.{walk-run, command-run, never}
+use Rattle.cutting.proofs.Walks.{walk-behind, command-run}
+use Rattle.cutting.proofs.Values.{never}
 use Rattle.cutting.proofs.Begins.{begun-query}
-use Rattle.cutting.proofs.Units.{Chain, done, link, failed-not, asked-not, units-chain}
+use Rattle.cutting.proofs.Splits.{failed-not, asked-not}
+use Rattle.cutting.proofs.Units.{Chain, done, link, units-chain}
 use Rattle.cutting.proofs.Packing.{length-records, few-commands}
 
 -- a command that passes asks nothing
@@ -115,7 +115,7 @@ module _ (capacity : ℕ) (order : List ℕ) (complete-so : complete capacity or
   unfolding uncut complete
   complete-run =
       end-between (run capacity order between challengedState) _
-      (sym (walk-run (length order) capacity (3 + length order) 0x00 (went 0) order challengedState (le-refl (length order)) (omega arith) refl (λ h q. plain-behind (3 + length order) order h (omega arith)))
+      (sym (walk-behind capacity (3 + length order) 0x00 (went 0) order challengedState (omega arith) refl)
       ∙ finished-went (walk (length order) capacity (3 + length order) 0x00 order challengedState) complete-so)
 
   pub complete-ready : ready (uncut capacity order) ≡ true

@@ -25,9 +25,8 @@ use Rattle.model.specs.Session.{freshOf, Session, runOf}
 use Rattle.model.specs.Order.{challengedState, finished, complete, recordsFor, Writing, writeOf}
 use Rattle.cutting.specs.Job.{jobWith, sessionOf, stateOf, uncut, Accepted}
 use Rattle.cutting.specs.Contents.{Grouped, groupedIn, ssnnOf, valuesOf, Each, Contents}
-use Rattle.cutting.proofs.Values.{and-right}
+use Rattle.cutting.proofs.Values.{and-right, never}
 use Rattle.cutting.proofs.Heads.{Long, header-long}
-use Rattle.cutting.proofs.Walks.{never}
 use Rattle.cutting.proofs.Commands.{finished-ready}
 use Rattle.cutting.proofs.Taken.{cut-same-end}
 use Rattle.cutting.proofs.Writes.{write-only, write-all, fresh-form}

@@ -15,8 +15,7 @@ use Rattle.model.specs.declared.Open.the-variants.{Record}
 use Rattle.model.specs.declared.Head.{Head}
 use Rattle.model.specs.declared.Spot.{Spot}
 use Rattle.model.specs.declared.Spot.the-variants.{Nowhere, At}
-use Rattle.model.specs.declared.Verdict.{Verdict}
-use Rattle.model.specs.declared.Verdict.the-variants.{Passes, Refuses}
+use Rattle.model.specs.declared.Verdict.the-variants.{Passes}
 use Rattle.model.specs.Stored.{areaSize}
 use Rattle.model.specs.Rows.{rowTable, rowAt, rowOf, taken, withRow, readyFor, noneFrom, rising, due}
 use Rattle.model.specs.Loads.{State, fileList, withInternal, withOpen, changed}
@@ -24,7 +23,7 @@ use Rattle.model.specs.Rules.{Result, went, asked, failed, tagSpot, laid, roomI
 use Rattle.cutting.specs.Job.{stateOf}
 use Rattle.cutting.specs.Contents.{Grouped, Each}
 use Rattle.cutting.proofs.Values.{and-right, length-most}
-use Rattle.cutting.proofs.Walks.{never}
+use Rattle.cutting.proofs.Begins.{refuses-not}
 use Rattle.cutting.proofs.Laid.{laidAll, laid-last, Placed, Rising, none, more, each-last, rising-last}
 
 -- the area holds the values of these groupings, and nothing else
@@ -82,11 +81,7 @@ seen-under {s} tag d (late t l f) =
 
 -- rule e found the record
 spot-room : (x : Spot) (room : ℕ) → roomIn x ≡ Passes room → (base : ℕ) × (x ≡ At base room)
-spot-room Nowhere room e = absurd (never (ap isPasses e))
-  where
-    isPasses : Verdict → Bool
-    isPasses (Passes n) = true
-    isPasses (Refuses w) = false
+spot-room Nowhere room e = absurd (refuses-not 0x6A88 room e)
 spot-room (At base size) room e = let q : size ≡ room = cc in (base, ap (At base) q)
 
 room-spot : (files : List Descriptor) (row tag room : ℕ) → eqb row 11 ≡ true → roomOf files row tag ≡ Passes room → (base : ℕ) × (tagSpot files tag ≡ At base room)

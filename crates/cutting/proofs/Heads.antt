@@ -16,8 +16,9 @@ use Rattle.model.specs.declared.Header.{Header}
 use Rattle.model.specs.declared.Header.the-variants.{Torn, Whole}
 use Rattle.model.specs.Header.{headed, longForm, headerOf}
 use Rattle.model.specs.Loads.{State}
-use Rattle.model.specs.Rules.{Result, went, asked, failed, Rule, thence}
-use Rattle.cutting.specs.Bytewise.{Part, between, head, openByte, begun, onHead, step, run, atEnd}
+use Rattle.model.specs.Rules.{went, failed, Rule, thence}
+use Rattle.cutting.specs.Bytewise.{between, head, openByte, begun, onHead, step, run, atEnd}
+use Rattle.cutting.proofs.Splits.{thence-went}
 
 -- the header of three bytes or more, and of five or more where the third is 'FF'
 pub header-three : (a b c : ℕ) (r : List ℕ) → headerOf (a ∷ b ∷ c ∷ r) ≡ cond (eqb c 0xFF) (longForm (a ∷ b ∷ c ∷ r)) (headed (word a b) 3 c)
@@ -128,11 +129,6 @@ alone-whole : (capacity : ℕ) (u : List ℕ) (h : Head) (s : State) → s .load
 alone-whole capacity [] h s e q n = absurd (let z : _≡_ {A = Header} Torn (Whole h) = unfold headerOf in q in let y : _≡_ {A = ℕ} 0 1 = cc in omega arith)
 alone-whole capacity (a ∷ u) h s e q n =
     run-whole capacity a u h s e q ∙ rw (drop-of-length-le (a ∷ u) {i = h .size} (omega arith)) (unfold run in thence-went (begun capacity h s))
-  where
-    thence-went : (r : Result Part) → thence r (λ p. went p) ≡ r
-    thence-went (went p s′) = refl
-    thence-went (asked t s′) = refl
-    thence-went (failed w s′) = refl
 
 pub run-head : (capacity : ℕ) (o : List ℕ) (h : Head) (s : State) → s .load .pending ≡ Shut → headerOf o ≡ Whole h
     → run capacity (take (h .size) o) between s ≡ begun capacity h s

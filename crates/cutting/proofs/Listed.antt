@@ -24,8 +24,7 @@ use Rattle.model.specs.Table.{tableLimit, accessesOk, dfOk, efOk, sizeOf, rules
 use Rattle.model.specs.Loads.{State, fileList, withOpen, withTaken, changed}
 use Rattle.model.specs.Rules.{Result, went, asked, failed, Rule, thence, _>>_, does, described, startupOk, startup, kept, tableDone, tableByte, inTable, tableBytes, fed, spanned, whole, ruleH}
 use Rattle.cutting.proofs.Opened.{Leaves}
-use Rattle.cutting.proofs.Values.{and-left}
-use Rattle.cutting.proofs.Walks.{never}
+use Rattle.cutting.proofs.Values.{and-left, never}
 
 -- the file table: 31 places, and the files that it lists fit in the file area
 pub record Fits (files : List Descriptor) (count : ℕ) : Type 0 where

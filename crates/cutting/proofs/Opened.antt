@@ -21,13 +21,7 @@ use Rattle.model.specs.Rows.{descriptorSize}
 use Rattle.model.specs.Table.{descriptorOf, admitOf}
 use Rattle.model.specs.Loads.{State, fileList, withOpen, changed}
 use Rattle.model.specs.Rules.{Result, went, asked, failed, Rule, thence, described, tableDone, recordDone, tableByte, tableBytes, inTable, tagSpot, laid, recordBytes, feeding, fed}
-use Rattle.cutting.specs.Bytewise.{Part, between, openByte, step, run, atEnd}
-
--- `Misses o n`: the open value `o` wants n bytes more, and its end falls on the end of a descriptor
-pub data Misses : Open → ℕ → Type 0 where
-  shut : Misses Shut 0
-  table : {held n : ℕ} → held < 18 → (held + suc n) % 18 ≡ 0 → Misses (Table held (suc n)) (suc n)
-  stored : {tag written n : ℕ} → Misses (Record tag written (suc n)) (suc n)
+use Rattle.cutting.specs.Bytewise.{Part, between, openByte, step, run, atEnd, Misses, shut, table, stored}
 
 pub misses-none : (o : Open) → Misses o 0 → o ≡ Shut
 misses-none Shut shut = refl

@@ -16,7 +16,8 @@ use Rattle.model.specs.Header.{headerOf}
 use Rattle.model.specs.Loads.{State, fileList, withInternal, changed}
 use Rattle.model.specs.Rules.{Result, went, asked, failed, Rule, thence, _>>=_, _>>_, judged, unless, wholeHead, ruleA, isQuery, aloneAtStart, bit1, bit8, challenged, query, ruleB, ruleC, dueRow, ruleD, roomOf, ruleE, lengthOk, ruleF, ruleG, ruleH, grouping}
 use Rattle.cutting.proofs.Bridge.{passes-true}
-use Rattle.cutting.proofs.Units.{failed-not, asked-not}
+use Rattle.cutting.proofs.Begins.{due-row}
+use Rattle.cutting.proofs.Splits.{failed-not, asked-not}
 
 -- two rules that both went on
 pub record Both {A B : Type 0} (r : Result A) (k : A → Rule B) (b : B) (s′ : State) : Type 0 where
@@ -69,14 +70,6 @@ after-b n p1 bytes h s k b s′ e = go (isQuery (h .tag)) e
     go : (x : Bool) → thence (cond x (query n p1 bytes h s) (went 0 s)) (λ a. k) ≡ went b s′ → k s ≡ went b s′
     go true q = absurd (stopped (query n p1 bytes h s) (λ a. k) b s′ (query-stops n p1 bytes h s) q)
     go false q = q
-
-due-row : (x y : Bool) (w z r row : ℕ) → cond x (Refuses w) (cond y (Passes r) (Refuses z)) ≡ Passes row → (row ≡ r) × (y ≡ true)
-due-row true y w z r row q = absurd (refuses-not w row q)
-  where
-    refuses-not : (w row : ℕ) → Refuses w ≡ Passes row → ⊥
-    refuses-not w row e = subst (λ (v : Verdict). elim v as (λ u. Type 0) [ Passes n ↦ ⊥ | Refuses n ↦ Unit {0} ]) e tt
-due-row false true w z r row q = (cc, refl)
-due-row false false w z r row q = (cc, cc)
 
 -- a grouping that passed: its header, and what rules d to h said of it
 pub record Passed (capacity : ℕ) (bytes : List ℕ) (s : State) (left : List ℕ) (s′ : State) : Type 0 where

@@ -19,9 +19,8 @@ use Rattle.model.specs.Command.{walk, ready, theEnd, command}
 use Rattle.model.specs.Events.{says, gives, isName, nameFci, namesIn, installForm, installing, install, select, commanded, storeData, personalizing, otherwise, event, answerTo}
 use Rattle.model.specs.Session.{replied, turnOf, Run, turned, after, runFrom}
 use Rattle.model.specs.Order.{challengedState, stored, storedAll}
-use Rattle.cutting.specs.Bytewise.{between, run}
+use Rattle.cutting.specs.Bytewise.{between, run, Misses}
 use Rattle.cutting.specs.Job.{instanceName, installData, installRecord, selectRecord, jobCard}
-use Rattle.cutting.proofs.Opened.{Misses}
 use Rattle.cutting.proofs.Stored.{turn-stored}
 use Rattle.cutting.proofs.Units.{Chain, done, link}
 use Rattle.cutting.proofs.Commands.{command-passes}

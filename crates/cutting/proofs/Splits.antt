@@ -1,6 +1,6 @@
 -- The byte-wise walk over two lists end to end is the walk over the second after that over the first.
 use Prim.Native.Nat.{ℕ}
-use mathlib.Core.Path.{_≡_, refl, sym, ap, _∙_}
+use mathlib.Core.Path.{_≡_, refl, sym, ap, _∙_, subst}
 use mathlib.Core.List.{List, [], _∷_, _++_}
 use Rattle.model.specs.Loads.{State}
 use Rattle.model.specs.Rules.{Result, went, asked, failed, Rule, thence}
@@ -11,10 +11,32 @@ thence-assoc (went a s) f g = refl
 thence-assoc (asked t s) f g = refl
 thence-assoc (failed w s) f g = refl
 
+pub thence-went : {A : Type 0} (r : Result A) → thence r (λ a. went a) ≡ r
+thence-went (went a s) = refl
+thence-went (asked t s) = refl
+thence-went (failed w s) = refl
+
 pub thence-same : {A B : Type 0} (r : Result A) (f g : A → Rule B) → ((a : A) (s : State) → f a s ≡ g a s) → thence r f ≡ thence r g
 thence-same (went a s) f g h = h a s
 thence-same (asked t s) f g h = refl
 thence-same (failed w s) f g h = refl
+
+-- results of different kinds differ
+pub failed-not : {A : Type 0} (w : ℕ) (s s′ : State) (a : A) → failed w s ≡ went a s′ → ⊥
+failed-not {A} w s s′ a e = subst Fails e tt
+  where
+    Fails : Result A → Type 0
+    Fails (went b t) = ⊥
+    Fails (asked b t) = ⊥
+    Fails (failed b t) = Unit {0}
+
+pub asked-not : {A : Type 0} (w : ℕ) (s s′ : State) (a : A) → asked w s ≡ went a s′ → ⊥
+asked-not {A} w s s′ a e = subst Asks e tt
+  where
+    Asks : Result A → Type 0
+    Asks (went b t) = ⊥
+    Asks (asked b t) = Unit {0}
+    Asks (failed b t) = ⊥
 
 pub run-append : (capacity : ℕ) (xs ys : List ℕ) (p : Part) (s : State)
     → run capacity (xs ++ ys) p s ≡ thence (run capacity xs p s) (λ p′. run capacity ys p′)

@@ -19,7 +19,7 @@ use Rattle.model.specs.Session.{Run, runFrom, eventsIn, runOf}
 use Rattle.model.specs.Order.{challengedState, complete, cutOf, stored, storedAll, recordsFor}
 use Rattle.cutting.specs.Packs.{joined, Sized, none, more}
 use Rattle.cutting.specs.Job.{installRecord, selectRecord, jobWith, sessionOf, jobCard, uncut, Taken}
-use Rattle.cutting.proofs.Walks.{never}
+use Rattle.cutting.proofs.Values.{never}
 use Rattle.cutting.proofs.Units.{Chain, done, link}
 use Rattle.cutting.proofs.Stored.{record-length, joined-length, joined-apart}
 use Rattle.cutting.proofs.Commands.{cut-chain, cut-sized, complete-ready, not-ready}

@@ -16,10 +16,10 @@ use Rattle.model.specs.Header.{headerOf}
 use Rattle.model.specs.Loads.{State, withTaken, changed}
 use Rattle.model.specs.Rules.{Result, went, asked, failed, thence, does, _>>_, kept}
 use Rattle.model.specs.Order.{single, groupingUnits, unitsBy, unitsIn}
-use Rattle.cutting.specs.Bytewise.{Part, between, value, ending, awaited, begun, step, run, atEnd}
+use Rattle.cutting.specs.Bytewise.{Part, between, value, ending, awaited, begun, step, run, atEnd, Misses, shut}
 use Rattle.cutting.specs.Packs.{longestUnit}
-use Rattle.cutting.proofs.Splits.{run-append}
-use Rattle.cutting.proofs.Opened.{Misses, shut, misses-none, Leaves, Rests, step-rests}
+use Rattle.cutting.proofs.Splits.{run-append, thence-went, failed-not, asked-not}
+use Rattle.cutting.proofs.Opened.{misses-none, Leaves, Rests, step-rests}
 use Rattle.cutting.proofs.Heads.{run-torn, run-whole, run-head, Long, header-long}
 use Rattle.cutting.proofs.Values.{Closed, kept-closed, value-whole, awaited-whole, awaited-short}
 use Rattle.cutting.proofs.Begins.{Begins, fails, opens, awaits, begins-so}
@@ -31,22 +31,6 @@ pub data Chain (capacity most : ℕ) : State → List (List ℕ) → State → T
   link : {s s₁ s₂ : State} {u : List ℕ} {us : List (List ℕ)} (n : ℕ) → Misses (s .load .pending) n → 1 ≤ length u → length u ≤ most
       → run capacity u between s ≡ went between s₁ → Chain capacity most s₁ us s₂ → Chain capacity most s (u ∷ us) s₂
 
-pub failed-not : {A : Type 0} (w : ℕ) (s s′ : State) (a : A) → failed w s ≡ went a s′ → ⊥
-failed-not {A} w s s′ a e = subst Fails e tt
-  where
-    Fails : Result A → Type 0
-    Fails (went b t) = ⊥
-    Fails (asked b t) = ⊥
-    Fails (failed b t) = Unit {0}
-
-pub asked-not : {A : Type 0} (w : ℕ) (s s′ : State) (a : A) → asked w s ≡ went a s′ → ⊥
-asked-not {A} w s s′ a e = subst Asks e tt
-  where
-    Asks : Result A → Type 0
-    Asks (went b t) = ⊥
-    Asks (asked b t) = Unit {0}
-    Asks (failed b t) = ⊥
-
 closed-misses : (s : State) → Closed s → Misses (s .load .pending) 0
 closed-misses s c = subst (λ (o : Open). Misses o 0) (sym c) shut
 
@@ -54,11 +38,6 @@ units-none : (fuel : ℕ) → unitsIn fuel [] ≡ []
 unfolding unitsIn
 units-none zero = refl
 units-none (suc fuel) = refl
-
-thence-went : (r : Result Part) → thence r (λ p. went p) ≡ r
-thence-went (went p s) = refl
-thence-went (asked t s) = refl
-thence-went (failed w s) = refl
 
 module _ (capacity fuel : ℕ) (s′ : State) where
   -- the units behind a value, from where it leaves the walk

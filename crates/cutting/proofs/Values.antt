@@ -5,7 +5,7 @@ use mathlib.Core.Bool.{Bool, true, false, _&&_}
 use mathlib.Core.List.{List, [], _∷_, _++_, append-nil, append-assoc}
 use native.Mathlib.Omega.{arith}
 use native.Mathlib.Nat.{suc-sub-suc, sub-zero}
-use lib.Dec.{eqb, leb, lit≤}
+use lib.Dec.{T, eqb, leb, lit≤}
 use lib.ListN.{length, take, drop, take-append-drop}
 use lib.Seq.{length-take-le}
 use borrow.Author.Tests.{leb-true, eqb-true}
@@ -15,8 +15,8 @@ use Rattle.model.specs.declared.Open.the-variants.{Shut}
 use Rattle.model.specs.Rows.{rowAt, rowTable}
 use Rattle.model.specs.Loads.{State}
 use Rattle.model.specs.Rules.{went, failed, Rule, thence, lengthOk, startupOk, startup, kept, openedAs}
-use Rattle.cutting.specs.Bytewise.{value, ending, awaited, step, run, atEnd}
-use Rattle.cutting.proofs.Opened.{Misses, table, stored, Leaves}
+use Rattle.cutting.specs.Bytewise.{value, ending, awaited, step, run, atEnd, Misses, table, stored}
+use Rattle.cutting.proofs.Opened.{Leaves}
 
 -- the last byte of a value, and those before
 pub value-whole : (capacity row n : ℕ) (v u rest : List ℕ) (s : State) → length v ≡ suc n
@@ -63,7 +63,10 @@ kept-closed capacity row v s e =
     (λ f. by-cond (Leaves Closed) (startupOk v) (λ g. by-cond (Leaves Closed) (leb (suc capacity) 6) (λ i. tt) (λ i. e)) (λ g. tt))
     (λ f. by-cond (λ (m : Rule ℕ). Leaves Closed (m s)) (eqb row 4) (λ g. e) (λ g. e)))
 
--- the parts of rule f
+-- the parts of rule f, and of a conjunction
+pub never : false ≡ true → ⊥
+never q = subst T (sym q) tt
+
 pub and-left : (a b : Bool) → a && b ≡ true → a ≡ true
 and-left true b h = refl
 and-left false b h = h

@@ -1,11 +1,11 @@
 -- The published walk by groupings is the byte-wise walk: groupings end to end, and a whole command.
 use Prim.Native.Nat.{ℕ, zero, suc, _+_, _*_, _%_, _≤_, _<_}
-use mathlib.Core.Path.{_≡_, refl, sym, _∙_, subst}
+use mathlib.Core.Path.{_≡_, refl, _∙_, subst}
 use mathlib.Core.Bool.{Bool, true, false, not, _&&_}
 use mathlib.Core.List.{List, [], _∷_}
 use native.Mathlib.Omega.{arith}
 use native.Mathlib.Nat.{le-refl}
-use lib.Dec.{T, eqb, leb, ltb}
+use lib.Dec.{eqb, leb, ltb}
 use lib.ListN.{length}
 use borrow.Author.Tests.{eqb-true, ltb-true}
 use Rattle.model.specs.declared.Open.{Open}
@@ -22,10 +22,10 @@ use Rattle.model.specs.Command.{walk, theEnd, command}
 use Rattle.model.specs.Rows.{taken}
 use Rattle.model.specs.Sound.{gpOk, internalOk, nameOk, selectedOk, descriptorsOk, rowsOk, tablePlaced, secretsOk, openOk, tableFits, pendingFits, someMissing, soundWith, sound}
 use Rattle.model.specs.declared.Life.{Life}
-use Rattle.cutting.specs.Bytewise.{between, run, atEnd, step, asks}
+use Rattle.cutting.specs.Bytewise.{between, run, atEnd, step, asks, Misses, shut, table, stored}
 use Rattle.cutting.proofs.Splits.{thence-assoc}
-use Rattle.cutting.proofs.Opened.{Misses, shut, table, stored, misses-none, fed-shut, fed-none, fed-step, step-rests, Agrees, fed-then, fed-run}
-use Rattle.cutting.proofs.Values.{Closed, and-left, and-right}
+use Rattle.cutting.proofs.Opened.{misses-none, fed-shut, fed-none, fed-step, step-rests, Agrees, fed-then, fed-run}
+use Rattle.cutting.proofs.Values.{Closed, never, and-left, and-right}
 use Rattle.cutting.proofs.Bridge.{Plain, plain-behind, plain-other, grouping-run, grouping-torn}
 
 -- the walk over what is left, and then `k`
@@ -59,6 +59,11 @@ walk-run (suc fuel) capacity n p1 k (b ∷ bs) s f l o plain =
       none = λ s′. walk-none fuel capacity n p1 k s′;
       some = λ left s′ lt c. walk-run fuel capacity n p1 k left s′ (omega arith) (omega arith) c (λ h q. plain-behind n left h (omega arith));
     })
+
+-- behind data byte 0 no grouping asks anything
+pub walk-behind : {B : Type 0} (capacity n p1 : ℕ) (k : Rule B) (bytes : List ℕ) (s : State) → length bytes < n → s .load .pending ≡ Shut
+    → thence (walk (length bytes) capacity n p1 bytes s) (λ a. k) ≡ thence (run capacity bytes between s) (atEnd k)
+walk-behind capacity n p1 k bytes s l o = walk-run (length bytes) capacity n p1 k bytes s (le-refl (length bytes)) (omega arith) o (λ h q. plain-behind n bytes h l)
 
 -- the header of a command that asks nothing
 unasked : (o : Open) (bytes : List ℕ) (n : ℕ) → o ≡ Shut → asks o bytes ≡ false → (h : Head) → headerOf bytes ≡ Whole h → Plain n bytes h
@@ -97,9 +102,6 @@ command-run capacity p1 (suc n) (b ∷ bs) s m q =
     rw (fed-step capacity b n bs s m)
     (command-open capacity p1 n b bs s m (command-agrees capacity (length (b ∷ bs)) p1 (length (b ∷ bs)) (le-refl (length (b ∷ bs)))))
 
-pub never : false ≡ true → ⊥
-never q = subst T (sym q) tt
-
 -- a sound card's open value misses some bytes, and ends where a descriptor does
 fits-table : (l : Loading) (held missing : ℕ) → pendingFits (Table held missing) l ≡ true → leb 1 missing ≡ true → Misses (Table held missing) missing
 fits-table l held zero f q = absurd (never q)
@@ -133,7 +135,7 @@ sound-misses c h =
 -- the bridge on a sound card
 pub command-sound : (c : Card) (area : List ℕ) (p1 : ℕ) (bytes : List ℕ) → sound c ≡ true → asks (c .loading .pending) bytes ≡ false
     → command (c .chip .capacity) p1 bytes (record { load = c .loading; area = area })
-      ≡ thence (run (c .chip .capacity) bytes between (record { load = c .loading; area = area })) (atEnd (theEnd p1))
+    ≡ thence (run (c .chip .capacity) bytes between (record { load = c .loading; area = area })) (atEnd (theEnd p1))
 command-sound c area p1 bytes h q =
     let m : (n : ℕ) × Misses (c .loading .pending) n = sound-misses c h in
     command-run (c .chip .capacity) p1 (m .0) bytes (record { load = c .loading; area = area }) (m .1) q

@@ -1,6 +1,7 @@
--- The working walk: a command's data byte by byte, so that it can be split at any byte. No contract cites it; proofs/Bridge says
+-- The working walk: a command's data byte by byte, so that it can be split at any byte. No contract cites it; proofs/Walks says
 -- that it is the published one.
-use Prim.Native.Nat.{ℕ, zero, suc, _-_}
+use Prim.Native.Nat.{ℕ, zero, suc, _+_, _-_, _%_, _<_}
+use mathlib.Core.Path.{_≡_}
 use mathlib.Core.Bool.{Bool, false, cond}
 use mathlib.Core.List.{List, [], _∷_, _++_}
 use lib.Dec.{leb}
@@ -52,15 +53,20 @@ started capacity row h s = cond (rowAt row .spans) (went between (opened row (h 
 unfoldable pub behind : ℕ → Rule ℕ
 behind tag s = cond (isQuery tag) (failed 0x6A80 s) (went 0 s)
 
--- a whole header: rules b to f, and the value's beginning
-unfoldable pub begun : ℕ → Head → Rule Part
-begun capacity h = do
-  behind (h .tag)
-  ruleC
+-- rules d to f, and the value's beginning
+abbrev pub judgedHead : ℕ → Head → Rule Part
+judgedHead capacity h = do
   row ← ruleD (h .tag)
   room ← ruleE row (h .tag)
   ruleF row room (h .len)
   started capacity row h
+
+-- a whole header: rules b to f
+unfoldable pub begun : ℕ → Head → Rule Part
+begun capacity h = do
+  behind (h .tag)
+  ruleC
+  judgedHead capacity h
 
 -- five bytes that are no header never become one
 abbrev pub onHead : ℕ → Header → List ℕ → Rule Part
@@ -92,3 +98,9 @@ abbrev pub asks : Open → List ℕ → Bool
 asks Shut bytes = headAsks (headerOf bytes)
 asks (Table held missing) bytes = false
 asks (Record tag written missing) bytes = false
+
+-- `Misses o n`: the open value `o` wants n bytes more, and the end of '3100' falls on the end of a descriptor; a sound card's does
+pub data Misses : Open → ℕ → Type 0 where
+  shut : Misses Shut 0
+  table : {held n : ℕ} → held < 18 → (held + suc n) % 18 ≡ 0 → Misses (Table held (suc n)) (suc n)
+  stored : {tag written n : ℕ} → Misses (Record tag written (suc n)) (suc n)

@@ -3,10 +3,10 @@ use Prim.Native.Nat.{ℕ, _+_, _*_, _≤_}
 use mathlib.Core.Path.{_≡_}
 use mathlib.Core.Bool.{true}
 use mathlib.Core.List.{List, [], _∷_, _++_}
-use Rattle.model.specs.declared.Card.{Card}
-use Rattle.model.specs.declared.Chip.{Chip}
 use lib.ListN.{length, replicate}
 use Rattle.lists.specs.Bytes.{padded}
+use Rattle.model.specs.declared.Card.{Card}
+use Rattle.model.specs.declared.Chip.{Chip}
 use Rattle.model.specs.Stored.{chipOf, chipForm, recordSize, eventIn, recordOf}
 use Rattle.model.specs.Loads.{State}
 use Rattle.model.specs.Rules.{Result, went, asked, failed}
@@ -36,10 +36,11 @@ selectRecord = recordOf (record { kind = 3; p1 = 0x00; bytes = instanceName })
 abbrev pub dataIn : List ℕ → List ℕ
 dataIn r = eventIn r .bytes
 
--- a session's bytes: INSTALL '0C', SELECT of that instance, and then some records
+-- INSTALL '0C', SELECT of that instance, and then some records
 unfoldable pub jobWith : List (List ℕ) → List (List ℕ)
 jobWith records = installRecord ∷ selectRecord ∷ records
 
+-- as a session's bytes
 abbrev pub sessionOf : List (List ℕ) → List ℕ
 sessionOf records = joined (jobWith records)
 

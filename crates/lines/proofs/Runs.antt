@@ -40,6 +40,13 @@ module _ (a xs ys zs : List ℕ) (i p q r s t x y z : ℕ)
       (rw (run-one a ((xs ++ x ∷ []) ++ ys) i r y (simp length-append (omega arith)), run-more a (((xs ++ x ∷ []) ++ ys) ++ y ∷ []) zs i s (simp length-append (omega arith)))
       (run-one a ((((xs ++ x ∷ []) ++ ys) ++ y ∷ []) ++ zs) i t z (simp length-append (omega arith))))
 
+-- three runs and a character behind them
+module _ (a xs ys zs : List ℕ) (i p q r x : ℕ) (ep : i + length xs ≡ p) (eq : p + length ys ≡ q) (er : q + length zs ≡ r) where
+  pub run-line : set (overwrite (overwrite (overwrite a i xs) p ys) q zs) r x ≡ overwrite a i (((xs ++ ys) ++ zs) ++ x ∷ [])
+  run-line =
+      rw (run-more a xs ys i p ep, run-more a (xs ++ ys) zs i q (simp length-append (omega arith)))
+      (run-one a ((xs ++ ys) ++ zs) i r x (simp length-append (omega arith)))
+
 pub length-line : (n kind number word gp internal rows : ℕ) → length (lineWith n kind number word gp internal rows) ≡ 26
 unfolding lineWith
 length-line n kind number word gp internal rows = refl

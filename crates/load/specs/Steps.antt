@@ -1,54 +1,29 @@
--- How the walk's code and the walk's definition are held together: what a step's answer means, and what is left of a grouping's rules.
-use Prim.Native.Nat.{ℕ, _+_, _-_, _≤_, _<_}
+-- How the walk's code and the walk's definition are held together: what is left of a grouping's rules, and of a command.
+use Prim.Native.Nat.{ℕ, _+_, _-_, _%_, _≤_, _<_}
 use mathlib.Core.Path.{_≡_}
-use mathlib.Core.Bool.{Bool, true, false, cond, _||_}
-use mathlib.Core.List.{List, [], _∷_}
+use mathlib.Core.Bool.{Bool, true, false, _&&_}
+use mathlib.Core.List.{List}
+use lib.Dec.{leb, eqb}
 use lib.ListN.{length, drop}
-use Rattle.lists.specs.Bytes.{zeros}
-use Rattle.model.specs.declared.Life.{Life}
-use Rattle.model.specs.declared.Loading.{Loading}
+use Rattle.model.specs.declared.Row.{Row}
 use Rattle.model.specs.declared.Head.{Head}
-use Rattle.model.specs.declared.Open.{Open}
-use Rattle.model.specs.declared.Open.the-variants.{Shut, Table, Record}
-use Rattle.model.specs.declared.Spot.{Spot}
-use Rattle.model.specs.declared.Spot.the-variants.{Nowhere, At}
 use Rattle.model.specs.Stored.{areaSize}
-use Rattle.model.specs.Loads.{State, fileList}
-use Rattle.model.specs.Rules.{Result, went, asked, failed, Rule, thence, _>>=_, _>>_, judged, tagSpot, ruleB, ruleC, ruleD, ruleE, ruleF, ruleG, ruleH}
-use Rattle.model.specs.Sound.{soundWith}
-use Rattle.load.specs.declared.Course.{Course}
-use Rattle.load.specs.declared.Course.the-variants.{Went, Asked, Failed}
-use Rattle.load.specs.declared.Step.{Step}
+use Rattle.model.specs.Loads.{State}
+use Rattle.model.specs.Rules.{Result, went, asked, failed, Rule, thence, _>>=_, _>>_, ruleB, ruleC, ruleD, ruleE, ruleF, ruleG, ruleH}
+use Rattle.soundness.specs.Keeps.{Onward}
+use Rattle.feed.specs.declared.Course.{Course}
+use Rattle.feed.specs.declared.Course.the-variants.{Went, Asked, Failed}
+use Rattle.feed.specs.declared.Step.{Step}
+use Rattle.feed.specs.Steps.{stateOf, activeLife}
 
-abbrev pub stateOf : Loading → List ℕ → State
-stateOf l a = record { load = l; area = a }
+-- a step's answer at a command's end, where no place is left to go on from
+abbrev pub endedAs : Course → State → Result ℕ
+endedAs (Went at) s = went 0 s
+endedAs (Asked t) s = asked t s
+endedAs (Failed w) s = failed w s
 
--- the paper's values for each case of a step's answer: the walk goes on from a place of the data, a query was asked, an error's word
-abbrev pub coursed : Course → List ℕ → State → Result (List ℕ)
-coursed (Went at) bytes s = went (drop at bytes) s
-coursed (Asked t) bytes s = asked t s
-coursed (Failed w) bytes s = failed w s
-
-abbrev pub stepped : Step → List ℕ → List ℕ → Result (List ℕ)
-stepped r bytes area = coursed (r .course) bytes (stateOf (r .load) area)
-
--- the same at a command's end, where no place is left to go on from
-abbrev pub finishedAs : Course → State → Result ℕ
-finishedAs (Went at) s = went 0 s
-finishedAs (Asked t) s = asked t s
-finishedAs (Failed w) s = failed w s
-
-abbrev pub done : Step → List ℕ → Result ℕ
-done r area = finishedAs (r .course) (stateOf (r .load) area)
-
--- a selected card at '07': a command comes to no other
-abbrev pub activeLife : Life
-activeLife = record { gp = 0x07; selected = true; name = zeros 16; namelen = 5 }
-
--- the loading part of such a card, sound, and a whole file area
-pub record Active (l : Loading) (area : List ℕ) : Type 0 where
-  pub sound : soundWith activeLife l ≡ true
-  pub whole : length area ≡ areaSize
+abbrev pub ended : Step → List ℕ → Result ℕ
+ended r area = endedAs (r .course) (stateOf (r .load) area)
 
 -- the rest of a grouping's rules, from each on
 abbrev pub fromF : ℕ → ℕ → ℕ → Head → List ℕ → Rule (List ℕ)
@@ -61,5 +36,24 @@ fromE capacity row h bytes = ruleE row (h .tag) >>= λ room. fromF capacity row 
 abbrev pub fromD : ℕ → Head → List ℕ → Rule (List ℕ)
 fromD capacity h bytes = ruleD (h .tag) >>= λ row. fromE capacity row h bytes
 
+abbrev pub fromC : ℕ → Head → List ℕ → Rule (List ℕ)
+fromC capacity h bytes = ruleC >> fromD capacity h bytes
+
 abbrev pub fromB : ℕ → ℕ → ℕ → Head → List ℕ → Rule (List ℕ)
-fromB capacity n p1 h bytes = ruleB n p1 bytes h >> (ruleC >> fromD capacity h bytes)
+fromB capacity n p1 h bytes = ruleB n p1 bytes h >> fromC capacity h bytes
+
+-- a length that a row's constants allow, in so much room
+abbrev pub fitsRow : Row → ℕ → ℕ → Bool
+fitsRow x room len = leb (x .least) len && leb len room && eqb (len % x .step) 0
+
+-- the lengths of the facts, and of a secret: what rule f leaves of a row that stays whole
+pub record Sized (row n : ℕ) : Type 0 where
+  pub serial : row ≡ 2 → n ≡ 8
+  pub startup : row ≡ 3 → n ≡ 7
+  pub counter : row ≡ 4 → n ≡ 3
+  pub secret : n ≤ 64
+  pub most : row ≤ 10
+
+-- a command's walk may go on from a place: the state is sound, and bytes are left only where nothing is open
+abbrev pub Walking : ℕ → List ℕ → State → Type 0
+Walking at bytes s = Onward activeLife areaSize (drop at bytes) s

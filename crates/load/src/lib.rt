@@ -1,61 +1,235 @@
 // One STORE DATA command: an open value's bytes, the groupings by rules a to h, the end.
+use feed::Course;
+use feed::Step;
+use feed::Taken;
 use model::Head;
 use model::Header;
 use model::Loading;
 use model::Open;
+use model::Row;
 use model::Secret;
 use model::Spot;
 use model::Verdict;
 ghost use mathlib.Core.Path.{_≡_};
-ghost use mathlib.Core.List.{_∷_, []};
-ghost use Prim.Native.Nat.{_+_, _-_, _*_, _≤_, _<_, min};
+ghost use mathlib.Core.Bool.{true, false, _&&_, not};
+ghost use mathlib.Core.List.{List, _∷_, []};
+ghost use lib.Dec.{eqb};
+ghost use Prim.Native.Nat.{ℕ, _+_, _-_, _*_, _≤_, _<_, min};
 ghost use lib.ListN.{length, take, drop};
-ghost use Rattle.lists.specs.Bytes.{part, zeros};
-ghost use Rattle.model.specs.Loads.{fileList, withInternal, withTaken, withLast, withOpen, withNoneOpen, withFile, withSerial, withStartup, withCounter, withSecret};
-ghost use Rattle.model.specs.Rules.{went, failed, isQuery, query, kept, fed, spanned, whole, ruleH, grouping, tableDone, recordDone, recordBytes, tableBytes, roomOf, lengthOk, startupOk, tagSpot, laid};
-ghost use Rattle.model.specs.Command.{walk, theEnd, command, ready};
-ghost use Rattle.load.specs.Steps.{stateOf, stepped, done, Active, fromB, fromD, fromE, fromF};
+ghost use Rattle.model.specs.declared.Open.the-variants.{Shut};
+ghost use Rattle.model.specs.declared.Verdict.the-variants.{Passes};
+ghost use Rattle.model.specs.Rows.{rowAt};
+ghost use Rattle.model.specs.Loads.{fileList};
+ghost use Rattle.model.specs.Rules.{isQuery, query, challenged, startupOk, startup, counterOf, kept, roomOf, spanned, whole, grouping};
+ghost use Rattle.model.specs.Command.{isShut, walk, theEnd, command};
+ghost use Rattle.soundness.specs.Keeps.{Ruled};
+ghost use Rattle.feed.specs.Steps.{stateOf, stepped, took, Sure};
+ghost use Rattle.load.specs.Steps.{ended, fromF, fromE, fromD, fromC, fromB, fitsRow, Sized, Walking};
 
-// How a step of the walk ends: it goes on from a place of the data, a query was asked, or it failed by a word.
-pub enum Course {
-    Went(usize),
-    Asked(u16),
-    Failed(u16),
-}
+const RECORD_ROW: usize = 11;
 
-pub struct Step {
-    pub course: Course,
-    pub load: Loading,
-}
+const TABLE_ROW: usize = 5;
 
-// The loading part with another open value: the one place that makes it anew.
-fn with_open(l: Loading, open: Open, held: [u8; 18]) -> Loading
-    ensures { λ r. ⌜ r ≡ withOpen «open» held l ⌝ }
+const FIRST_SECRET_ROW: usize = 6;
+
+fn failed_by(w: u16, l: Loading) -> Step
+    ensures { λ r. ⌜ r ≡ record { course = Course.Failed w; load = l } ⌝ }
 {
-    let files = l.files;
-    let serial = l.serial;
-    let startup = l.startup;
-    let secrets = l.secrets;
-    Loading {
-        internal: l.internal,
-        rows: l.rows,
-        last: l.last,
-        pending: open,
-        held: held,
-        files: files,
-        count: l.count,
-        serial: serial,
-        startup: startup,
-        counter: l.counter,
-        secrets: secrets,
+    Step {
+        course: Course::Failed(w),
+        load: l,
     }
 }
 
-fn with_taken(l: Loading, r: usize) -> Loading
-    requires { ⌜ (1 ≤ r) × (r ≤ 11) ⌝ }
-    ensures { λ x. ⌜ x ≡ withTaken r l ⌝ }
+// '2100': first byte 6 to 55 and last two zero.
+fn is_startup(v: &[u8]) -> bool
+    requires { ⌜ length (now v) ≡ 7 ⌝ }
+    ensures { λ r. ⌜ r ≡ startupOk (now (v .entry)) ⌝ }
+{
+    if v[0] < 6 {
+        return false;
+    }
+    if 55 < v[0] {
+        return false;
+    }
+    if v[5] != 0 {
+        return false;
+    }
+    v[6] == 0
+}
+
+// The smaller of what was asked and the capacity is kept.
+fn startup_kept(l: Loading, capacity: u8, v: &[u8]) -> Taken
+    requires { ⌜ length (now v) ≡ 7 ⌝ }
+    ensures { λ r. ⌜ ((a : List ℕ) → took r a ≡ startup capacity (now (v .entry)) (stateOf l a)) ⌝ }
+{
+    if is_startup(v) {
+        if capacity < 6 {
+            return Taken {
+                verdict: Verdict::Refuses(0x6A84),
+                load: l,
+            };
+        }
+        let asked = v[0];
+        let mut bytes = slices::padded7(v);
+        if capacity < asked {
+            bytes[0] = capacity;
+        }
+        let mut next = l;
+        next.startup = bytes;
+        return Taken {
+            verdict: Verdict::Passes(0),
+            load: next,
+        };
+    }
+    Taken {
+        verdict: Verdict::Refuses(0x6A80),
+        load: l,
+    }
+}
+
+// Three bytes, the most significant first.
+fn counter_in(v: &[u8]) -> u32
+    requires { ⌜ length (now v) ≡ 3 ⌝ }
+    ensures { λ r. ⌜ r ≡ counterOf (now (v .entry)) ⌝ }
+{
+    let first = slices::wide(v[0]);
+    let second = slices::wide(v[1]);
+    let third = slices::wide(v[2]);
+    ((first * 256 + second) * 256 + third) as u32
+}
+
+// Rows 6 to 10 are the secrets.
+fn secret_place(row: usize) -> usize
+    requires { ⌜ row ≤ 10 ⌝ }
+    ensures { λ r. ⌜ (r ≡ row - 6) × (r < 5) ⌝ }
+{
+    if row < FIRST_SECRET_ROW {
+        return 0;
+    }
+    row - FIRST_SECRET_ROW
+}
+
+// A passed grouping is kept: serial, startup, counter, or the secret's bytes with their length.
+fn kept_as(l: Loading, capacity: u8, row: usize, v: &[u8]) -> Taken
+    requires { ⌜ Sized row (length (now v)) ⌝ }
+    ensures { λ r. ⌜ ((a : List ℕ) → took r a ≡ kept capacity row (now (v .entry)) (stateOf l a)) ⌝ }
 {
     let mut next = l;
-    next.rows = rows::with_row(l.rows, r);
-    next
+    if row == 2 {
+        next.serial = slices::padded8(v);
+        return Taken {
+            verdict: Verdict::Passes(0),
+            load: next,
+        };
+    }
+    if row == 3 {
+        return startup_kept(l, capacity, v);
+    }
+    if row == 4 {
+        next.counter = counter_in(v);
+        return Taken {
+            verdict: Verdict::Passes(0),
+            load: next,
+        };
+    }
+    let at = secret_place(row);
+    let bytes = slices::padded64(v);
+    let secret = Secret {
+        bytes: bytes,
+        len: v.len(),
+    };
+    next.secrets[at] = secret;
+    Taken {
+        verdict: Verdict::Passes(0),
+        load: next,
+    }
+}
+
+// Rule h of a grouping that stays whole; its value begins at `at`.
+fn whole_at(l: Loading, capacity: u8, row: usize, h: Head, d: &[u8], at: usize) -> Step
+    requires { ⌜ Sized row (h .len) × (1 ≤ row) × (at + h .len ≤ length (now d)) ⌝ }
+    ensures { λ r. ⌜ ((a : List ℕ) → stepped r (now (d .entry)) a ≡ whole capacity row h (drop at (now (d .entry))) (stateOf l a)) ⌝ }
+{
+    let end = at + h.len;
+    let t = kept_as(l, capacity, row, &d[at..end]);
+    let load = t.load;
+    let verdict = t.verdict;
+    match verdict {
+        Verdict::Passes(_) => Step {
+            course: Course::Went(end),
+            load: feed::with_taken(load, row),
+        },
+        Verdict::Refuses(w) => failed_by(w, load),
+    }
+}
+
+// Rule h of a value that may run on; it begins at `at`.
+fn spanned_at(
+    l: Loading,
+    area: &mut [u8],
+    row: usize,
+    h: Head,
+    d: &[u8],
+    at: usize,
+    room: usize,
+) -> Step
+    requires { ⌜ Sure l (now area) × (l .pending ≡ Shut) × Ruled (stateOf l (now area)) h row room × (rowAt row .spans ≡ true) × (at ≤ length (now d)) ⌝ }
+    ensures { λ r. ⌜ stepped r (now (d .entry)) (now (area .exit)) ≡ spanned row h (drop at (now (d .entry))) (stateOf l (now (area .entry))) ⌝ }
+{
+    let len = h.len;
+    if row == TABLE_ROW {
+        let held = l.held;
+        let open = feed::with_open(
+            l,
+            Open::Table {
+                held: 0,
+                missing: len,
+            },
+            held,
+        );
+        return feed::table_fed(open, d, at, len);
+    }
+    feed::record_fed(l, area, d, at, h.tag, 0, len)
+}
+
+fn fits_row(x: Row, room: usize, len: usize) -> bool
+    requires { ⌜ 1 ≤ x .step ⌝ }
+    ensures { λ r. ⌜ r ≡ fitsRow x room len ⌝ }
+{
+    if len < x.least {
+        return false;
+    }
+    if room < len {
+        return false;
+    }
+    len % x.step == 0
+}
+
+// Rules f, g and h; the grouping's header begins at `at`.
+fn from_f(
+    l: Loading,
+    area: &mut [u8],
+    capacity: u8,
+    row: usize,
+    room: usize,
+    h: Head,
+    d: &[u8],
+    at: usize,
+) -> Step
+    requires { ⌜ Sure l (now area) × (l .pending ≡ Shut) × (1 ≤ row) × (row ≤ 11) × RuledE (stateOf l (now area)) h row room × (at + h .size ≤ length (now d)) ⌝ }
+    ensures { λ r. ⌜ stepped r (now (d .entry)) (now (area .exit)) ≡ fromF capacity row room h (drop at (now (d .entry))) (stateOf l (now (area .entry))) ⌝ }
+{
+    let x = rows::row_at(row);
+    let start = at + h.size;
+    if fits_row(x, room, h.len) {
+        if x.spans {
+            return spanned_at(l, area, row, h, d, start, room);
+        }
+        if h.len <= d.len() - start {
+            return whole_at(l, capacity, row, h, d, start);
+        }
+        return failed_by(0x6A80, l);
+    }
+    failed_by(0x6700, l)
 }

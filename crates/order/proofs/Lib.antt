@@ -1,4 +1,5 @@
--- The laws of units and of packing, on which the cutting's proofs stand.
+-- The laws of units and of packing, on which the cutting's proofs stand, and those of a pull.
 pub mod Units
 pub mod Packing
 pub mod Stepping
+pub mod Pulls

@@ -13,7 +13,8 @@ use Rattle.model.specs.declared.Head.{Head}
 use Rattle.model.specs.declared.Header.{Header}
 use Rattle.model.specs.declared.Header.the-variants.{Torn, Whole}
 use Rattle.model.specs.Header.{headed, longForm, headerOf}
-use Rattle.model.specs.Order.{groupingUnits, unitsBy, unitsIn}
+use Rattle.model.specs.Rows.{rowAt, rowOf, rowTable}
+use Rattle.model.specs.Order.{spannable, groupingUnits, unitsBy, unitsIn}
 
 -- a whole header takes at least 3 bytes, and those are there
 abbrev pub Within : List ℕ → Header → Type 0
@@ -66,3 +67,8 @@ units-at fuel [] p q = absurd (omega arith)
 units-at zero (b ∷ bs) p q = absurd (omega arith)
 units-at (suc f) (b ∷ bs) p q =
     units-later f (suc f) (b ∷ bs) (headerOf (b ∷ bs)) (header-within (b ∷ bs)) (λ r l. units-enough f (suc f) r (omega arith) (omega arith)) p
+
+-- an unknown tag's value does not span
+pub unknown-whole : (tag r : ℕ) → r ≡ rowOf tag → r ≡ 0 → false ≡ spannable tag
+unfolding rowAt rowTable
+unknown-whole tag r e z = ap (λ (k : ℕ). rowAt k .spans) (sym z ∙ e)

@@ -132,14 +132,27 @@ fn command_end(order: &[u8], start: Place) -> Place
     let mut at = start.at;
     let mut inside = start.inside;
     while at < order.len() {
-        let step = step_at(order, Place { at: at, inside: inside }, DATA_ROOM - (at - start.at));
+        let step = step_at(
+            order,
+            Place {
+                at: at,
+                inside: inside,
+            },
+            DATA_ROOM - (at - start.at),
+        );
         if step.taken == 0 {
-            return Place { at: at, inside: inside };
+            return Place {
+                at: at,
+                inside: inside,
+            };
         }
         at += step.taken;
         inside = step.inside;
     }
-    Place { at: at, inside: inside }
+    Place {
+        at: at,
+        inside: inside,
+    }
 }
 
 // How many commands the order is cut into.

@@ -3,7 +3,7 @@ use Prim.Native.Nat.{ℕ, zero, suc}
 use mathlib.Core.Path.{_≡_, refl, ap, sym, _∙_}
 use mathlib.Core.Bool.{true≢false, Bool, true, false, _&&_}
 use mathlib.Core.List.{List, [], _∷_}
-use lib.ListN.{length, getD}
+use lib.ListN.{length}
 use Rattle.lists.specs.Bytes.{byteAt}
 use Rattle.lists.specs.Choice.{by-cond}
 use Rattle.model.specs.declared.Card.{Card}
@@ -11,12 +11,8 @@ use Rattle.model.specs.Stored.{eventIn, paddedZero}
 use Rattle.model.specs.Header.{headerOf}
 use Rattle.model.specs.Loads.{State}
 use Rattle.model.specs.Rules.{went, asked, failed, grouping}
-use Rattle.secrecy.specs.View.{Mark, seen, secret, groupingMarks, marksBy, marksWalk, marksIn, walked, Hiding, shownAs, view, viewRecord}
+use Rattle.secrecy.specs.View.{Mark, seen, secret, groupingMarks, marksBy, marksWalk, marksIn, markAt, walked, Hiding, shownAs, view, viewRecord}
 use Rattle.secrecy.proofs.Marks.{length-view, shown-zero}
-
--- the mark of byte i; a byte without a mark is seen
-abbrev pub markAt : List Mark → ℕ → Mark
-markAt ms i = getD ms i seen
 
 module _ (z : Hiding) where
   pub byte-view : (ms : List Mark) (b : List ℕ) (i : ℕ) → byteAt (view z ms b) i ≡ shownAs z (markAt ms i) (byteAt b i)

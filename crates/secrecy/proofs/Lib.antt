@@ -22,4 +22,7 @@ pub mod Keeps
 pub mod Kept
 pub mod Told
 pub mod Leaves
+pub mod Goes
+pub mod Agree
+pub mod Differ
 pub mod Witnesses

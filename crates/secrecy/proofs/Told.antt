@@ -26,7 +26,7 @@ use Rattle.secrecy.proofs.Grouping.{hides-grouping}
 use Rattle.secrecy.proofs.Events.{Walks, walks}
 use Rattle.secrecy.proofs.Turns.{first, data-seen, padded-seen, hides-turn}
 
-torn-fails : (capacity n p1 : ℕ) (b : List ℕ) (s : State) → headerOf b ≡ Torn → notWent (grouping capacity n p1 b s)
+pub torn-fails : (capacity n p1 : ℕ) (b : List ℕ) (s : State) → headerOf b ≡ Torn → notWent (grouping capacity n p1 b s)
 unfolding grouping ruleA
 torn-fails capacity n p1 b s e = rw e tt
 

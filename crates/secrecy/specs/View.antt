@@ -4,7 +4,7 @@ use Prim.Native.Nat.{ℕ, zero, suc, _-_}
 use mathlib.Core.Bool.{Bool, true, false, cond, not, _&&_, _||_}
 use mathlib.Core.List.{List, [], _∷_, _++_}
 use lib.Dec.{eqb, ltb, leb}
-use lib.ListN.{length, take, drop, replicate}
+use lib.ListN.{length, getD, take, drop, replicate}
 use Rattle.lists.specs.Bytes.{byteAt, part, zeros}
 use Rattle.model.specs.declared.Open.{Open}
 use Rattle.model.specs.declared.Open.the-variants.{Shut, Table, Record}
@@ -82,6 +82,10 @@ marksData c a r = take (byteAt r 3) (marksCommand (c .chip .capacity) (byteAt r 
 -- a record's bytes: kind, P1, P2 and length, then the data's; none of a record that is refused or whose data is not walked
 unfoldable pub marksIn : Card → List ℕ → List ℕ → List Mark
 marksIn c a r = cond (paddedZero r && walked (eventIn r) c) (seens 4 ++ marksData c a r) []
+
+-- the mark of byte i; a byte without a mark is seen
+abbrev pub markAt : List Mark → ℕ → Mark
+markAt ms i = getD ms i seen
 
 -- the records of a session, each at its place in the run
 unfoldable pub marksFrom : Card → List ℕ → List (List ℕ) → List (List Mark)

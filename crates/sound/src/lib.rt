@@ -11,7 +11,6 @@ ghost use mathlib.Core.Bool.{_&&_, _||_};
 ghost use Prim.Native.Nat.{_≤_};
 ghost use lib.Dec.{eqb};
 ghost use lib.ListN.{length};
-ghost use Rattle.model.specs.Rows.{taken};
 ghost use Rattle.model.specs.Loads.{fileList};
 ghost use Rattle.model.specs.Rules.{tagSpot};
 ghost use Rattle.model.specs.Sound.{gpOk, internalOk, nameOk, selectedOk, descriptorsOk, rowsOk, tableOpen, tablePlaced, secretsOk, tableFits, recordFits, pendingFits, someMissing, openOk, sound};
@@ -344,8 +343,8 @@ fn value_ok(l: Loading, g: u8) -> bool
 {
     let o = l.pending;
     if open_ok(o, g, l.internal) {
-        if some_missing(o) {
-            return pending_fits(o, l);
+        if pending_fits(o, l) {
+            return some_missing(o);
         }
     }
     false

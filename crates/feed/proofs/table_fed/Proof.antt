@@ -63,10 +63,14 @@ loop-again : tie.Need-loop-again Inv-loop μ-loop
 loop-again c =
     let l = c .before .before .before .before .before .before .loop in
     let d = now (c .before .before .before .before .before .before .before .before .before .args .d) in
-    let f = passed-to _ _ _ _ _ _ (c .before .before .before .before .next-fed .ensures []) _ (c .before .verdict .given .1) in
-    (omega arith, omega arith, omega arith, omega arith,
+    let f = passed-to _ _ _ _ _ _ (c .before .before .before .before .next-fed .ensures []) _ (c .before .verdict .given .1) in (
+      omega arith,
+      omega arith,
+      omega arith,
+      omega arith,
       fed-on d (l .i) (c .before .verdict .given .0 .0) (l .rest) _ _ (omega arith) (omega arith) (omega arith) (l .inv .4) (f .2),
-      λ a. l .inv .5 a ∙ table-passes-on d (l .i) (c .before .verdict .given .0 .0) _ _ _ (omega arith) (omega arith) (passed-to _ _ _ _ _ _ (c .before .before .before .before .next-fed .ensures a) _ (c .before .verdict .given .1) .2))
+      λ a. l .inv .5 a ∙ table-passes-on d (l .i) (c .before .verdict .given .0 .0) _ _ _ (omega arith) (omega arith) (passed-to _ _ _ _ _ _ (c .before .before .before .before .next-fed .ensures a) _ (c .before .verdict .given .1) .2),
+    )
 
 enum-known-verdict-2 : tie.Need-enum-known-verdict-2 Inv-loop μ-loop
 enum-known-verdict-2 c = search needs

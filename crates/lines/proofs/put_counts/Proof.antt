@@ -41,16 +41,15 @@ add-put-two-2 : tie.Need-add-put-two-2
 add-put-two-2 c = search needs
 
 put-two-requires-2 : tie.Need-put-two-requires-2
-put-two-requires-2 c κs = ?
+put-two-requires-2 c κs = rw (length-set, c .before .before .before .put-two .ensures, length-over, length-set) (omega arith)
 
 add-out-3 : tie.Need-add-out-3
 add-out-3 c = search needs
 
 slice-write-out-3 : tie.Need-slice-write-out-3
-slice-write-out-3 c = ?
-
-same-length : tie.Need-same-length
-same-length c = ?
+slice-write-out-3 c =
+    let u = c .before .before .before .before .before .before in
+    rw (c .before .before .put-two2 .ensures, length-over, length-set, u .put-two .ensures, length-over, length-set) (omega arith)
 
 returns : tie.Need-returns
 returns c =
@@ -60,6 +59,9 @@ returns c =
     rw (c .before .before .put-two2 .ensures, u .put-two .ensures, v .put-five .ensures)
     (run-fields (now (a .out)) (five (a .n)) (two (a .kind)) (two (a .number)) (a .at) (a .at + 5) (a .at + 6) (a .at + 8) (a .at + 9) (a .at + 11) 32 32 32
     refl (omega arith) (omega arith) (omega arith) (omega arith))
+
+same-length : tie.Need-same-length
+same-length c = ap length (returns c) ∙ length-over _ _ _
 
 pub put-counts-spec : {M : Type 1} → statement M
 put-counts-spec =

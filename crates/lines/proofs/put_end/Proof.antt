@@ -6,6 +6,9 @@ use native.Mathlib.Numerals.{add-one}
 use lib.ListN.{length, take, drop, set, getD, length-set, length-take, length-drop, length-append}
 use denote.Ref.{now}
 use borrow.Author.Needs.{needs}
+use Rattle.model.specs.Lines.{five, endOf}
+use Rattle.lists.specs.Over.{length-over}
+use Rattle.lines.proofs.Runs.{run-more, run-one}
 use Rattle.lines.proofs.put_end.Statement.{statement}
 use Rattle.lines.proofs.put_end.Tie as tie
 use Rattle.lines.proofs.put_end.Reads as reads
@@ -31,11 +34,17 @@ add-out c = search needs
 slice-write-out : tie.Need-slice-write-out
 slice-write-out c = search needs
 
-same-length : tie.Need-same-length
-same-length c = ?
-
 returns : tie.Need-returns
-returns c = ?
+unfolding endOf
+returns c =
+    let u = c .before .before .before .before .before .before in
+    let a = u .before .before .before .before .args in
+    let end : List ℕ = 0x45 ∷ 0x4E ∷ 0x44 ∷ 0x20 ∷ [] in
+    rw (c .before .before .put-five .ensures, u .put-bytes .ensures, run-more (now (a .out)) end (five (a .n)) (a .at) (a .at + 4) refl)
+    (run-one (now (a .out)) (end ++ five (a .n)) (a .at) (a .at + 9) 10 refl)
+
+same-length : tie.Need-same-length
+same-length c = ap length (returns c) ∙ length-over _ _ _
 
 pub put-end-spec : {M : Type 1} → statement M
 put-end-spec =

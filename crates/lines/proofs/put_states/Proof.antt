@@ -6,6 +6,9 @@ use native.Mathlib.Numerals.{add-one}
 use lib.ListN.{length, take, drop, set, getD, length-set, length-take, length-drop, length-append}
 use denote.Ref.{now}
 use borrow.Author.Needs.{needs}
+use Rattle.model.specs.Lines.{hex2, hex4}
+use Rattle.lists.specs.Over.{length-over}
+use Rattle.lines.proofs.Runs.{run-fields}
 use Rattle.lines.proofs.put_states.Statement.{statement}
 use Rattle.lines.proofs.put_states.Tie as tie
 use Rattle.lines.proofs.put_states.Reads as reads
@@ -26,31 +29,39 @@ add-put-hex2 : tie.Need-add-put-hex2
 add-put-hex2 c = search needs
 
 put-hex2-requires : tie.Need-put-hex2-requires
-put-hex2-requires c κs = ?
+put-hex2-requires c κs = simp length-set (omega arith)
 
 add-out-2 : tie.Need-add-out-2
 add-out-2 c = search needs
 
 slice-write-out-2 : tie.Need-slice-write-out-2
-slice-write-out-2 c = ?
+slice-write-out-2 c = rw (c .before .before .put-hex2 .ensures, length-over, length-set) (omega arith)
 
 add-put-hex2-2 : tie.Need-add-put-hex2-2
 add-put-hex2-2 c = search needs
 
 put-hex2-requires-2 : tie.Need-put-hex2-requires-2
-put-hex2-requires-2 c κs = ?
+put-hex2-requires-2 c κs = rw (length-set, c .before .before .before .put-hex2 .ensures, length-over, length-set) (omega arith)
 
 add-out-3 : tie.Need-add-out-3
 add-out-3 c = search needs
 
 slice-write-out-3 : tie.Need-slice-write-out-3
-slice-write-out-3 c = ?
-
-same-length : tie.Need-same-length
-same-length c = ?
+slice-write-out-3 c =
+    let u = c .before .before .before .before .before .before in
+    rw (c .before .before .put-hex22 .ensures, length-over, length-set, u .put-hex2 .ensures, length-over, length-set) (omega arith)
 
 returns : tie.Need-returns
-returns c = ?
+returns c =
+    let u = c .before .before .before .before .before .before in
+    let v = u .before .before .before .before in
+    let a = v .before .before .before .args in
+    rw (c .before .before .put-hex22 .ensures, u .put-hex2 .ensures, v .put-hex4 .ensures)
+    (run-fields (now (a .out)) (hex4 (a .word)) (hex2 (a .gp)) (hex2 (a .internal)) (a .at) (a .at + 4) (a .at + 5) (a .at + 7) (a .at + 8) (a .at + 10) 32 32 32
+    refl (omega arith) (omega arith) (omega arith) (omega arith))
+
+same-length : tie.Need-same-length
+same-length c = ap length (returns c) ∙ length-over _ _ _
 
 pub put-states-spec : {M : Type 1} → statement M
 put-states-spec =

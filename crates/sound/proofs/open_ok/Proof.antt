@@ -1,16 +1,6 @@
-use Prim.Native.Nat.{ℕ, suc, _+_, _*_, _-_, _≤_, _<_, _/_, _%_}
-use mathlib.Core.Path.{_≡_, refl, ap, sym, _∙_}
-use mathlib.Core.List.{List, [], _∷_, _++_}
-use native.Mathlib.Omega.{arith}
-use native.Mathlib.Numerals.{add-one}
-use lib.ListN.{length, take, drop, set, getD, length-set, length-take, length-drop, length-append}
-use denote.Ref.{now}
 use borrow.Author.Needs.{needs}
 use Rattle.sound.proofs.open_ok.Statement.{statement}
 use Rattle.sound.proofs.open_ok.Tie as tie
-use Rattle.sound.proofs.open_ok.Reads as reads
-use Rattle.sound.proofs.open_ok.Lts as lts
-use Rattle.sound.proofs.is_07_with_5a.Reads as is-07-with-5a-reads
 
 enum-told : tie.Need-enum-told
 enum-told c = search needs
@@ -31,10 +21,10 @@ returns : tie.Need-returns
 returns c = search needs
 
 returns-2 : tie.Need-returns-2
-returns-2 c = ?
+returns-2 c = rw (c .is-07-with-5a .ensures, c .before .enum-told2 .given .1)
 
 returns-3 : tie.Need-returns-3
-returns-3 c = ?
+returns-3 c = rw (c .is-07-with-5a2 .ensures, c .before .enum-told3 .given .1)
 
 pub open-ok-spec : {M : Type 1} → statement M
 open-ok-spec =

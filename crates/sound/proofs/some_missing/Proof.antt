@@ -1,15 +1,6 @@
-use Prim.Native.Nat.{ℕ, suc, _+_, _*_, _-_, _≤_, _<_, _/_, _%_}
-use mathlib.Core.Path.{_≡_, refl, ap, sym, _∙_}
-use mathlib.Core.List.{List, [], _∷_, _++_}
-use native.Mathlib.Omega.{arith}
-use native.Mathlib.Numerals.{add-one}
-use lib.ListN.{length, take, drop, set, getD, length-set, length-take, length-drop, length-append}
-use denote.Ref.{now}
 use borrow.Author.Needs.{needs}
 use Rattle.sound.proofs.some_missing.Statement.{statement}
 use Rattle.sound.proofs.some_missing.Tie as tie
-use Rattle.sound.proofs.some_missing.Reads as reads
-use Rattle.sound.proofs.some_missing.Lts as lts
 
 enum-told : tie.Need-enum-told
 enum-told c = search needs
@@ -24,10 +15,10 @@ returns : tie.Need-returns
 returns c = search needs
 
 returns-2 : tie.Need-returns-2
-returns-2 c = ?
+returns-2 c = rw (c .before .o .given .1)
 
 returns-3 : tie.Need-returns-3
-returns-3 c = ?
+returns-3 c = rw (c .before .o2 .given .1)
 
 pub some-missing-spec : {M : Type 1} → statement M
 some-missing-spec =

@@ -1,24 +1,22 @@
-use Prim.Native.Nat.{ℕ, suc, _+_, _*_, _-_, _≤_, _<_, _/_, _%_}
-use mathlib.Core.Path.{_≡_, refl, ap, sym, _∙_}
-use mathlib.Core.List.{List, [], _∷_, _++_}
+use mathlib.Core.Path.{sym}
 use native.Mathlib.Omega.{arith}
-use native.Mathlib.Numerals.{add-one}
-use lib.ListN.{length, take, drop, set, getD, length-set, length-take, length-drop, length-append}
-use denote.Ref.{now}
 use borrow.Author.Needs.{needs}
+use Rattle.sound.proofs.Laws.{held-over, sum-over, sum-fits}
 use Rattle.sound.proofs.table_fits.Statement.{statement}
 use Rattle.sound.proofs.table_fits.Tie as tie
-use Rattle.sound.proofs.table_fits.Reads as reads
-use Rattle.sound.proofs.table_fits.Lts as lts
 
 returns : tie.Need-returns
-returns c = ?
+returns c = sym (held-over _ _ _ (c .if1 .taken))
 
 returns-2 : tie.Need-returns-2
-returns-2 c = ?
+returns-2 c =
+    let a = c .before .before .args in
+    sym (sum-over (a .count) (a .held) (a .missing) (omega arith))
 
 returns-3 : tie.Need-returns-3
-returns-3 c = ?
+returns-3 c =
+    let a = c .before .before .before .args in
+    sym (sum-over (a .count) (a .held) (a .missing) (omega arith))
 
 mul-all : tie.Need-mul-all
 mul-all c = search needs
@@ -30,10 +28,12 @@ add-all-2 : tie.Need-add-all-2
 add-all-2 c = search needs
 
 returns-4 : tie.Need-returns-4
-returns-4 c = ?
+returns-4 c = sym (sum-over _ _ _ (c .if4 .taken))
 
 returns-5 : tie.Need-returns-5
-returns-5 c = ?
+returns-5 c =
+    let a = c .before .before .before .before .args in
+    sym (sum-fits (a .count) (a .held) (a .missing) (omega arith) (omega arith))
 
 pub table-fits-spec : {M : Type 1} → statement M
 table-fits-spec =

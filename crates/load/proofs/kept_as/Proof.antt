@@ -1,0 +1,66 @@
+use Prim.Native.Nat.{ℕ, suc, _+_, _*_, _-_, _≤_, _<_, _/_, _%_}
+use mathlib.Core.Path.{_≡_, refl, ap, sym, _∙_}
+use mathlib.Core.List.{List, [], _∷_, _++_}
+use native.Mathlib.Omega.{arith}
+use native.Mathlib.Numerals.{add-one}
+use lib.ListN.{length, take, drop, set, getD, length-set, length-take, length-drop, length-append}
+use denote.Ref.{now}
+use borrow.Author.Needs.{needs}
+use Rattle.load.proofs.kept_as.Statement.{statement}
+use Rattle.load.proofs.kept_as.Tie as tie
+use Rattle.load.proofs.kept_as.Reads as reads
+use Rattle.load.proofs.kept_as.Lts as lts
+use Rattle.load.proofs.counter_in.Reads as counter-in-reads
+use Rattle.load.proofs.secret_place.Reads as secret-place-reads
+use Rattle.load.proofs.startup_kept.Reads as startup-kept-reads
+use Rattle.slices.proofs.padded64.Reads as padded64-reads
+use Rattle.slices.proofs.padded8.Reads as padded8-reads
+
+padded8-requires : tie.Need-padded8-requires
+padded8-requires c κs = ?
+
+returns : tie.Need-returns
+returns c = ?
+
+startup-kept-requires : tie.Need-startup-kept-requires
+startup-kept-requires c κs = ?
+
+returns-2 : tie.Need-returns-2
+returns-2 c = ?
+
+counter-in-requires : tie.Need-counter-in-requires
+counter-in-requires c κs = ?
+
+returns-3 : tie.Need-returns-3
+returns-3 c = ?
+
+secret-place-requires : tie.Need-secret-place-requires
+secret-place-requires c κs = search needs
+
+padded64-requires : tie.Need-padded64-requires
+padded64-requires c κs = search needs
+
+mul-secret : tie.Need-mul-secret
+mul-secret c = search needs
+
+element-set-from-secret : tie.Need-element-set-from-secret
+element-set-from-secret c = search needs
+
+returns-4 : tie.Need-returns-4
+returns-4 c = ?
+
+pub kept-as-spec : {M : Type 1} → statement M
+kept-as-spec =
+    tie.close
+    (tie.spec
+    padded8-requires
+    returns
+    startup-kept-requires
+    returns-2
+    counter-in-requires
+    returns-3
+    secret-place-requires
+    padded64-requires
+    mul-secret
+    element-set-from-secret
+    returns-4)

@@ -1,0 +1,44 @@
+use Prim.Native.Nat.{ℕ, suc, _+_, _*_, _-_, _≤_, _<_, _/_, _%_}
+use mathlib.Core.Path.{_≡_, refl, ap, sym, _∙_}
+use mathlib.Core.List.{List, [], _∷_, _++_}
+use native.Mathlib.Omega.{arith}
+use native.Mathlib.Numerals.{add-one}
+use lib.ListN.{length, take, drop, set, getD, length-set, length-take, length-drop, length-append}
+use denote.Ref.{now}
+use borrow.Author.Needs.{needs}
+use Rattle.load.proofs.spanned_at.Statement.{statement}
+use Rattle.load.proofs.spanned_at.Tie as tie
+use Rattle.load.proofs.spanned_at.Reads as reads
+use Rattle.load.proofs.spanned_at.Lts as lts
+use Rattle.feed.proofs.record_fed.Reads as record-fed-reads
+use Rattle.feed.proofs.table_fed.Reads as table-fed-reads
+use Rattle.feed.proofs.with_open.Reads as with-open-reads
+
+with-open-requires : tie.Need-with-open-requires
+with-open-requires c κs = search needs
+
+table-fed-requires : tie.Need-table-fed-requires
+table-fed-requires c κs = ?
+
+returns : tie.Need-returns
+returns c = ?
+
+record-fed-requires : tie.Need-record-fed-requires
+record-fed-requires c κs = ?
+
+same-length : tie.Need-same-length
+same-length c = search needs
+
+returns-2 : tie.Need-returns-2
+returns-2 c = ?
+
+pub spanned-at-spec : {M : Type 1} → statement M
+spanned-at-spec =
+    tie.close
+    (tie.spec
+    with-open-requires
+    table-fed-requires
+    returns
+    record-fed-requires
+    same-length
+    returns-2)

@@ -1,0 +1,56 @@
+use Prim.Native.Nat.{ℕ, suc, _+_, _*_, _-_, _≤_, _<_, _/_, _%_}
+use mathlib.Core.Path.{_≡_, refl, ap, sym, _∙_}
+use mathlib.Core.List.{List, [], _∷_, _++_}
+use native.Mathlib.Omega.{arith}
+use native.Mathlib.Numerals.{add-one}
+use lib.ListN.{length, take, drop, set, getD, length-set, length-take, length-drop, length-append}
+use denote.Ref.{now}
+use borrow.Author.Needs.{needs}
+use Rattle.order.specs.Steps.{groupingStep}
+use Rattle.order.proofs.grouping_step.Statement.{statement}
+use Rattle.order.proofs.grouping_step.Tie as tie
+use Rattle.order.proofs.grouping_step.Reads as reads
+use Rattle.order.proofs.grouping_step.Lts as lts
+use Rattle.order.proofs.is_spannable.Reads as is-spannable-reads
+use Rattle.order.proofs.least.Reads as least-reads
+use Rattle.order.proofs.unit_step.Reads as unit-step-reads
+
+is-spannable-requires : tie.Need-is-spannable-requires
+is-spannable-requires c κs = search needs
+
+unit-step-requires : tie.Need-unit-step-requires
+unit-step-requires c κs = search needs
+
+returns : tie.Need-returns
+unfolding groupingStep
+returns c = simp (c .unit-step .ensures, ← c .before .before .is-spannable .ensures, c .before .if1 .taken)
+
+sub-least : tie.Need-sub-least
+sub-least c = search needs
+
+least-requires : tie.Need-least-requires
+least-requires c κs = search needs
+
+add-unit-step : tie.Need-add-unit-step
+add-unit-step c = search needs
+
+unit-step-requires-2 : tie.Need-unit-step-requires-2
+unit-step-requires-2 c κs = search needs
+
+returns-2 : tie.Need-returns-2
+unfolding groupingStep
+returns-2 c =
+    simp (c .unit-step2 .ensures, c .before .before .least .ensures, ← c .before .before .before .before .before .is-spannable .ensures, c .before .before .before .before .if1 .left)
+
+pub grouping-step-spec : {M : Type 1} → statement M
+grouping-step-spec =
+    tie.close
+    (tie.spec
+    is-spannable-requires
+    unit-step-requires
+    returns
+    sub-least
+    least-requires
+    add-unit-step
+    unit-step-requires-2
+    returns-2)

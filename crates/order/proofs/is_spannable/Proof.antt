@@ -1,0 +1,30 @@
+use Prim.Native.Nat.{ℕ, suc, _+_, _*_, _-_, _≤_, _<_, _/_, _%_}
+use mathlib.Core.Path.{_≡_, refl, ap, sym, _∙_}
+use mathlib.Core.List.{List, [], _∷_, _++_}
+use native.Mathlib.Omega.{arith}
+use native.Mathlib.Numerals.{add-one}
+use lib.ListN.{length, take, drop, set, getD, length-set, length-take, length-drop, length-append}
+use denote.Ref.{now}
+use borrow.Author.Needs.{needs}
+use Rattle.order.proofs.Units.{unknown-whole}
+use Rattle.order.proofs.is_spannable.Statement.{statement}
+use Rattle.order.proofs.is_spannable.Tie as tie
+use Rattle.order.proofs.is_spannable.Reads as reads
+use Rattle.order.proofs.is_spannable.Lts as lts
+use Rattle.rows.proofs.row_at.Reads as row-at-reads
+use Rattle.rows.proofs.row_of.Reads as row-of-reads
+
+row-of-requires : tie.Need-row-of-requires
+row-of-requires c κs = search needs
+
+returns : tie.Need-returns
+returns c = unknown-whole _ (c .before .row-of .result) (c .before .row-of .ensures .0) (c .if1 .taken)
+
+row-at-requires : tie.Need-row-at-requires
+row-at-requires c κs = search needs
+
+returns-2 : tie.Need-returns-2
+returns-2 c = rw (c .row-at .ensures, c .before .before .row-of .ensures .0)
+
+pub is-spannable-spec : {M : Type 1} → statement M
+is-spannable-spec = tie.close (tie.spec row-of-requires returns row-at-requires returns-2)

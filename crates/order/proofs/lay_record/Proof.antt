@@ -1,0 +1,75 @@
+use Prim.Native.Nat.{ℕ, suc, _+_, _*_, _-_, _≤_, _<_, _/_, _%_}
+use mathlib.Core.Path.{_≡_, refl, ap, sym, _∙_}
+use mathlib.Core.List.{List, [], _∷_, _++_}
+use native.Mathlib.Omega.{arith}
+use native.Mathlib.Numerals.{add-one}
+use lib.ListN.{length, take, drop, set, getD, length-set, length-take, length-drop, length-append}
+use denote.Ref.{now}
+use borrow.Author.Needs.{needs}
+use Rattle.order.proofs.lay_record.Statement.{statement}
+use Rattle.order.proofs.lay_record.Tie as tie
+use Rattle.order.proofs.lay_record.Reads as reads
+use Rattle.order.proofs.lay_record.Lts as lts
+use Rattle.slices.proofs.clear.Reads as clear-reads
+use Rattle.slices.proofs.put_bytes.Reads as put-bytes-reads
+
+cast-t7 : tie.Need-cast-t7
+cast-t7 c = search needs
+
+slice-aggregate-put-bytes : tie.Need-slice-aggregate-put-bytes
+slice-aggregate-put-bytes c = search needs
+
+put-bytes-requires : tie.Need-put-bytes-requires
+put-bytes-requires c κs = search needs
+
+add-put-bytes : tie.Need-add-put-bytes
+add-put-bytes c = search needs
+
+put-bytes-requires-2 : tie.Need-put-bytes-requires-2
+put-bytes-requires-2 c κs = search needs
+
+add-clear : tie.Need-add-clear
+add-clear c = search needs
+
+add-clear-2 : tie.Need-add-clear-2
+add-clear-2 c = search needs
+
+add-clear-3 : tie.Need-add-clear-3
+add-clear-3 c = search needs
+
+sub-clear : tie.Need-sub-clear
+sub-clear c = search needs
+
+part-clear-start : tie.Need-part-clear-start
+part-clear-start c = search needs
+
+part-clear-end : tie.Need-part-clear-end
+part-clear-end c = search needs
+
+clear-requires : tie.Need-clear-requires
+clear-requires c κs = search needs
+
+same-length : tie.Need-same-length
+same-length c = search needs
+
+returns : tie.Need-returns
+returns c = ?
+
+pub lay-record-spec : {M : Type 1} → statement M
+lay-record-spec =
+    tie.close
+    (tie.spec
+    cast-t7
+    slice-aggregate-put-bytes
+    put-bytes-requires
+    add-put-bytes
+    put-bytes-requires-2
+    add-clear
+    add-clear-2
+    add-clear-3
+    sub-clear
+    part-clear-start
+    part-clear-end
+    clear-requires
+    same-length
+    returns)

@@ -1,0 +1,70 @@
+use mathlib.Core.Path.{sym, _∙_}
+use native.Mathlib.Omega.{arith}
+use borrow.Author.Needs.{needs}
+use Rattle.sound.proofs.Laws.{count-over, life-fails, load-fails, open-fails, table-left}
+use Rattle.sound.proofs.is_sound.Statement.{statement}
+use Rattle.sound.proofs.is_sound.Tie as tie
+
+places-requires : tie.Need-places-requires
+places-requires c κs = search needs
+
+returns : tie.Need-returns
+returns c = (sym (count-over _ _ (omega arith)), c .before .before .places .ensures .1)
+
+life-ok-requires : tie.Need-life-ok-requires
+life-ok-requires c κs = search needs
+
+load-ok-requires : tie.Need-load-ok-requires
+load-ok-requires c κs = search needs
+
+value-ok-requires : tie.Need-value-ok-requires
+value-ok-requires c κs = search needs
+
+descriptors-ok-requires : tie.Need-descriptors-ok-requires
+descriptors-ok-requires c κs = search needs
+
+returns-2 : tie.Need-returns-2
+returns-2 c =
+    let v = c .before .before in
+    let d = v .before .before in
+    let f = d .before .before in
+    let life = sym (f .life-ok .ensures) ∙ d .before .if2 .taken in
+    let load = sym (d .load-ok .ensures) ∙ v .before .if3 .taken in
+    let value = sym (v .value-ok .ensures) ∙ c .before .if4 .taken in
+    (c .descriptors-ok .ensures ∙ sym (table-left _ _ life load value), f .before .before .before .places .ensures .1)
+
+returns-3 : tie.Need-returns-3
+returns-3 c =
+    let v = c .before in
+    let d = v .before .before in
+    let f = d .before .before in
+    let life = sym (f .life-ok .ensures) ∙ d .before .if2 .taken in
+    let load = sym (d .load-ok .ensures) ∙ v .before .if3 .taken in
+    (sym (open-fails _ _ life load (sym (v .value-ok .ensures) ∙ c .if4 .left)), f .before .before .before .places .ensures .1)
+
+returns-4 : tie.Need-returns-4
+returns-4 c =
+    let d = c .before in
+    let f = d .before .before in
+    let life = sym (f .life-ok .ensures) ∙ d .before .if2 .taken in
+    (sym (load-fails _ _ life (sym (d .load-ok .ensures) ∙ c .if3 .left)), f .before .before .before .places .ensures .1)
+
+returns-5 : tie.Need-returns-5
+returns-5 c =
+    let f = c .before in
+    (sym (life-fails _ _ (sym (f .life-ok .ensures) ∙ c .if2 .left)), f .before .before .before .places .ensures .1)
+
+pub is-sound-spec : {M : Type 1} → statement M
+is-sound-spec =
+    tie.close
+    (tie.spec
+    places-requires
+    returns
+    life-ok-requires
+    load-ok-requires
+    value-ok-requires
+    descriptors-ok-requires
+    returns-2
+    returns-3
+    returns-4
+    returns-5)
