@@ -1,16 +1,16 @@
 -- Laws of bytes in hexadecimal and of numbers in decimal, as loops build them.
 use Prim.Native.Nat.{ℕ, zero, suc, _+_, _*_, _-_, _/_, _%_, _^_, _≤_, _<_}
-use mathlib.Core.Path.{_≡_, refl, ap, sym, _∙_}
-use mathlib.Core.List.{List, [], _∷_, _++_, append-assoc}
+use mathlib.Core.Path.{_≡_, refl}
+use mathlib.Core.List.{List, [], _∷_, _++_}
 use native.Mathlib.Nat.{le-of-lt, pow-suc}
 use native.Mathlib.Omega.{arith}
 use native.Mathlib.Numerals.{add-one}
 use lib.ListN.{length, take, set, getD, length-append}
 use lib.Seq.{take-suc, length-take-le, set-comm}
 use borrow.Author.Tests.{lt-ltb, le-ltb}
-use Rattle.lists.specs.Over.{overwrite}
+use Rattle.lists.specs.Over.{overwrite, over-none}
 use Rattle.model.specs.Lines.{digit, hex2}
-use Rattle.lines.specs.Trace.{hexOf, lastDigits, widthWith, widthOf}
+use Rattle.lines.specs.Trace.{hexOf, lastDigits, widthWith}
 use Rattle.lines.proofs.Runs.{run-one, run-more}
 
 -- Hexadecimal.
@@ -61,6 +61,12 @@ digits-more a p (suc i) r h =
     let ds = lastDigits i (r / 10) in
     let n : p + length ds ≡ p + i = rw (length-digits i (r / 10)) in
     rw (e, under ds a p (p + i) (digit (r % 10)) (omega arith)) (run-one a ds p (p + i) (digit (r % 10)) n)
+
+-- no digit is left when the loop ends
+pub digits-none : (a : List ℕ) (p i r : ℕ) → i ≤ 0 → overwrite a p (lastDigits i r) ≡ a
+unfolding lastDigits
+digits-none a p zero r h = over-none a p
+digits-none a p (suc i) r h = absurd (omega arith)
 
 -- Widths.
 

@@ -1,12 +1,12 @@
 -- Characters stored one after another, said as runs laid over the memory.
-use Prim.Native.Nat.{ℕ, zero, suc, _+_, _*_, _/_, _%_, _≤_, _<_, min}
-use mathlib.Core.Path.{_≡_, refl, ap, sym, _∙_}
+use Prim.Native.Nat.{ℕ, _+_, _/_, _%_}
+use mathlib.Core.Path.{_≡_, refl, sym, _∙_}
 use mathlib.Core.List.{List, [], _∷_, _++_}
 use native.Mathlib.Omega.{arith}
 use native.Mathlib.Numerals.{add-one}
 use lib.ListN.{length, set, length-append}
 use Rattle.lists.specs.Over.{overwrite, over-then, over-one}
-use Rattle.model.specs.Lines.{lineWith, endOf, two, five}
+use Rattle.model.specs.Lines.{two}
 
 -- a character behind a run, and a run behind a run; the place is the caller's to say
 pub run-one : (a xs : List ℕ) (i j x : ℕ) → i + length xs ≡ j → set (overwrite a i xs) j x ≡ overwrite a i (xs ++ x ∷ [])
@@ -46,11 +46,3 @@ module _ (a xs ys zs : List ℕ) (i p q r x : ℕ) (ep : i + length xs ≡ p) (e
   run-line =
       rw (run-more a xs ys i p ep, run-more a (xs ++ ys) zs i q (simp length-append (omega arith)))
       (run-one a ((xs ++ ys) ++ zs) i r x (simp length-append (omega arith)))
-
-pub length-line : (n kind number word gp internal rows : ℕ) → length (lineWith n kind number word gp internal rows) ≡ 26
-unfolding lineWith
-length-line n kind number word gp internal rows = refl
-
-pub length-end : (n : ℕ) → length (endOf n) ≡ 10
-unfolding endOf
-length-end n = refl

@@ -32,10 +32,10 @@ fn hex_digit(d: u8) -> u8
 fn capped(kind: u8) -> u8
     ensures { λ r. ⌜ r ≡ min kind 99 ⌝ }
 {
-    if kind < 99 {
-        return kind;
+    if 99 < kind {
+        return 99;
     }
-    99
+    kind
 }
 
 fn put_two(out: &mut [u8], at: usize, n: u32)

@@ -8,8 +8,10 @@ use lib.ListN.{length, drop}
 use Rattle.model.specs.declared.Row.{Row}
 use Rattle.model.specs.declared.Head.{Head}
 use Rattle.model.specs.Stored.{areaSize}
-use Rattle.model.specs.Loads.{State}
-use Rattle.model.specs.Rules.{Result, went, asked, failed, Rule, thence, _>>=_, _>>_, ruleB, ruleC, ruleD, ruleE, ruleF, ruleG, ruleH}
+use Rattle.model.specs.declared.Verdict.the-variants.{Passes}
+use Rattle.model.specs.Rows.{due}
+use Rattle.model.specs.Loads.{State, fileList}
+use Rattle.model.specs.Rules.{Result, went, asked, failed, Rule, thence, _>>=_, _>>_, roomOf, ruleB, ruleC, ruleD, ruleE, ruleF, ruleG, ruleH}
 use Rattle.soundness.specs.Keeps.{Onward}
 use Rattle.feed.specs.declared.Course.{Course}
 use Rattle.feed.specs.declared.Course.the-variants.{Went, Asked, Failed}
@@ -53,6 +55,17 @@ pub record Sized (row n : ℕ) : Type 0 where
   pub counter : row ≡ 4 → n ≡ 3
   pub secret : n ≤ 64
   pub most : row ≤ 10
+
+-- what rules c and d have passed of a grouping, and e with them
+pub record Dued (s : State) (h : Head) (row : ℕ) : Type 0 where
+  pub least : 1 ≤ row
+  pub most : row ≤ 11
+  pub personal : eqb (s .load .internal) 0x5A ≡ true
+  pub rowDue : due (s .load .rows) (s .load .last) row (h .tag) ≡ true
+
+pub record Roomed (s : State) (h : Head) (row room : ℕ) : Type 0 where
+  pub dued : Dued s h row
+  pub roomed : roomOf (fileList (s .load)) row (h .tag) ≡ Passes room
 
 -- a command's walk may go on from a place: the state is sound, and bytes are left only where nothing is open
 abbrev pub Walking : ℕ → List ℕ → State → Type 0

@@ -20,11 +20,11 @@ ghost use Rattle.model.specs.declared.Open.the-variants.{Shut};
 ghost use Rattle.model.specs.declared.Verdict.the-variants.{Passes};
 ghost use Rattle.model.specs.Rows.{rowAt};
 ghost use Rattle.model.specs.Loads.{fileList};
-ghost use Rattle.model.specs.Rules.{isQuery, query, challenged, startupOk, startup, counterOf, kept, roomOf, spanned, whole, grouping};
+ghost use Rattle.model.specs.Rules.{thence, isQuery, query, challenged, startupOk, startup, counterOf, kept, roomOf, spanned, whole, grouping};
 ghost use Rattle.model.specs.Command.{isShut, walk, theEnd, command};
 ghost use Rattle.soundness.specs.Keeps.{Ruled};
 ghost use Rattle.feed.specs.Steps.{stateOf, stepped, took, Sure};
-ghost use Rattle.load.specs.Steps.{ended, fromF, fromE, fromD, fromC, fromB, fitsRow, Sized, Walking};
+ghost use Rattle.load.specs.Steps.{ended, fromF, fromE, fromD, fromC, fromB, fitsRow, Sized, Dued, Roomed, Walking};
 
 const RECORD_ROW: usize = 11;
 
@@ -217,7 +217,7 @@ fn from_f(
     d: &[u8],
     at: usize,
 ) -> Step
-    requires { ⌜ Sure l (now area) × (l .pending ≡ Shut) × (1 ≤ row) × (row ≤ 11) × RuledE (stateOf l (now area)) h row room × (at + h .size ≤ length (now d)) ⌝ }
+    requires { ⌜ Sure l (now area) × (l .pending ≡ Shut) × Roomed (stateOf l (now area)) h row room × (at + h .size ≤ length (now d)) ⌝ }
     ensures { λ r. ⌜ stepped r (now (d .entry)) (now (area .exit)) ≡ fromF capacity row room h (drop at (now (d .entry))) (stateOf l (now (area .entry))) ⌝ }
 {
     let x = rows::row_at(row);
@@ -232,4 +232,262 @@ fn from_f(
         return failed_by(0x6A80, l);
     }
     failed_by(0x6700, l)
+}
+
+// Rule e: the most bytes that the value may have.
+fn room_of(l: Loading, row: usize, tag: u16) -> Verdict
+    requires { ⌜ (1 ≤ row) × (row ≤ 11) × (l .count ≤ 31) ⌝ }
+    ensures { λ v. ⌜ v ≡ roomOf (fileList l) row tag ⌝ }
+{
+    if row == RECORD_ROW {
+        let spot = feed::spot_at(l, tag);
+        match spot {
+            Spot::Nowhere => {
+                return Verdict::Refuses(0x6A88);
+            }
+            Spot::At { base: _, size } => {
+                return Verdict::Passes(size);
+            }
+        }
+    }
+    let x = rows::row_at(row);
+    Verdict::Passes(x.most)
+}
+
+fn from_e(
+    l: Loading,
+    area: &mut [u8],
+    capacity: u8,
+    row: usize,
+    h: Head,
+    d: &[u8],
+    at: usize,
+) -> Step
+    requires { ⌜ Sure l (now area) × (l .pending ≡ Shut) × Dued (stateOf l (now area)) h row × (at + h .size ≤ length (now d)) ⌝ }
+    ensures { λ r. ⌜ stepped r (now (d .entry)) (now (area .exit)) ≡ fromE capacity row h (drop at (now (d .entry))) (stateOf l (now (area .entry))) ⌝ }
+{
+    let verdict = room_of(l, row, h.tag);
+    match verdict {
+        Verdict::Passes(room) => from_f(l, area, capacity, row, room, h, d, at),
+        Verdict::Refuses(w) => failed_by(w, l),
+    }
+}
+
+// Rule d and what follows.
+fn from_d(l: Loading, area: &mut [u8], capacity: u8, h: Head, d: &[u8], at: usize) -> Step
+    requires { ⌜ Sure l (now area) × (l .pending ≡ Shut) × (eqb (l .internal) 0x5A ≡ true) × (at + h .size ≤ length (now d)) ⌝ }
+    ensures { λ r. ⌜ stepped r (now (d .entry)) (now (area .exit)) ≡ fromD capacity h (drop at (now (d .entry))) (stateOf l (now (area .entry))) ⌝ }
+{
+    let verdict = rows::due_row(l.rows, l.last, h.tag);
+    match verdict {
+        Verdict::Passes(row) => from_e(l, area, capacity, row, h, d, at),
+        Verdict::Refuses(w) => failed_by(w, l),
+    }
+}
+
+// Rule c and what follows: the state becomes '5A' before any later check.
+fn from_c(l: Loading, area: &mut [u8], capacity: u8, h: Head, d: &[u8], at: usize) -> Step
+    requires { ⌜ Sure l (now area) × (l .pending ≡ Shut) × (at + h .size ≤ length (now d)) ⌝ }
+    ensures { λ r. ⌜ stepped r (now (d .entry)) (now (area .exit)) ≡ fromC capacity h (drop at (now (d .entry))) (stateOf l (now (area .entry))) ⌝ }
+{
+    if l.internal == 0xA5 {
+        return failed_by(0x6985, l);
+    }
+    let mut next = l;
+    next.internal = 0x5A;
+    from_d(next, area, capacity, h, d, at)
+}
+
+fn is_query(tag: u16) -> bool
+    ensures { λ r. ⌜ r ≡ isQuery tag ⌝ }
+{
+    if tag == 0x9484 {
+        return true;
+    }
+    if tag == 0x8185 {
+        return true;
+    }
+    tag == 0x84F2
+}
+
+// '9484': only in 'CC' and once.
+fn challenge_given(l: Loading) -> Step
+    ensures { λ r. ⌜ ((a : List ℕ) → ended r a ≡ challenged (stateOf l a)) ⌝ }
+{
+    if l.internal == 0xCC {
+        if rows::is_due(l.rows, l.last, 1, 0x9484) {
+            return Step {
+                course: Course::Asked(0x9484),
+                load: feed::with_taken(l, 1),
+            };
+        }
+    }
+    failed_by(0x6985, l)
+}
+
+// Rule b: a query stands at data byte 0, empty and alone, with P1 bit 1 set and bit 8 clear.
+fn queried(l: Loading, p1: u8, h: Head, n: usize, at: usize) -> Step
+    requires { ⌜ at < n ⌝ }
+    ensures { λ r. ⌜ ((bytes a : List ℕ) → length bytes ≡ n - at → ended r a ≡ query n p1 bytes h (stateOf l a)) ⌝ }
+{
+    if at != 0 {
+        return failed_by(0x6A80, l);
+    }
+    if h.len != 0 {
+        return failed_by(0x6A80, l);
+    }
+    if h.size != n {
+        return failed_by(0x6A80, l);
+    }
+    if p1 % 2 == 1 {
+        if p1 < 0x80 {
+            if h.tag == 0x9484 {
+                return challenge_given(l);
+            }
+            return Step {
+                course: Course::Asked(h.tag),
+                load: l,
+            };
+        }
+    }
+    failed_by(0x6A86, l)
+}
+
+// Rules b to h of a grouping whose header is whole; it begins at `at`.
+fn from_b(l: Loading, area: &mut [u8], capacity: u8, p1: u8, h: Head, d: &[u8], at: usize) -> Step
+    requires { ⌜ Sure l (now area) × (l .pending ≡ Shut) × (at < length (now d)) × (at + h .size ≤ length (now d)) ⌝ }
+    ensures { λ r. ⌜ stepped r (now (d .entry)) (now (area .exit)) ≡ fromB capacity (length (now (d .entry))) p1 h (drop at (now (d .entry))) (stateOf l (now (area .entry))) ⌝ }
+{
+    let tag = h.tag;
+    if is_query(tag) {
+        return queried(l, p1, h, d.len(), at);
+    }
+    from_c(l, area, capacity, h, d, at)
+}
+
+// One grouping, by rules a to h; it begins at `at`.
+fn grouping_at(l: Loading, area: &mut [u8], capacity: u8, p1: u8, d: &[u8], at: usize) -> Step
+    requires { ⌜ Sure l (now area) × (l .pending ≡ Shut) × (at < length (now d)) ⌝ }
+    ensures { λ r. ⌜ stepped r (now (d .entry)) (now (area .exit)) ≡ grouping capacity (length (now (d .entry))) p1 (drop at (now (d .entry))) (stateOf l (now (area .entry))) ⌝ }
+{
+    let header = header::header_at(d, at);
+    match header {
+        Header::Whole(h) => from_b(l, area, capacity, p1, h, d, at),
+        Header::Torn => failed_by(0x6A80, l),
+    }
+}
+
+// Groupings end to end from `at` on: as many turns as there are bytes are enough.
+pub fn walked(l: Loading, area: &mut [u8], capacity: u8, p1: u8, d: &[u8], at: usize) -> Step
+    requires { ⌜ (at ≤ length (now d)) × Walking at (now d) (stateOf l (now area)) ⌝ }
+    ensures { λ r. ⌜ ended r (now (area .exit)) ≡ walk (length (now (d .entry)) - at) capacity (length (now (d .entry))) p1 (drop at (now (d .entry))) (stateOf l (now (area .entry))) ⌝ }
+{
+    let mut load = l;
+    let mut i = at;
+    let mut turns = d.len() - at;
+    while 0 < turns {
+        if d.len() <= i {
+            return Step {
+                course: Course::Went(i),
+                load: load,
+            };
+        }
+        let s = grouping_at(load, area, capacity, p1, d, i);
+        let next = s.load;
+        let course = s.course;
+        match course {
+            Course::Went(j) => {
+                load = next;
+                i = j;
+                turns -= 1;
+            }
+            Course::Asked(t) => {
+                return Step {
+                    course: Course::Asked(t),
+                    load: next,
+                };
+            }
+            Course::Failed(w) => {
+                return Step {
+                    course: Course::Failed(w),
+                    load: next,
+                };
+            }
+        }
+    }
+    Step {
+        course: Course::Went(i),
+        load: load,
+    }
+}
+
+// P1 bit 8 asks for the end.
+fn ended_by(l: Loading, p1: u8) -> Step
+    ensures { λ r. ⌜ ((a : List ℕ) → ended r a ≡ theEnd p1 (stateOf l a)) ⌝ }
+{
+    if p1 < 0x80 {
+        return Step {
+            course: Course::Went(0),
+            load: l,
+        };
+    }
+    if rows::mandatory_missing(l.rows) {
+        return failed_by(0x6985, l);
+    }
+    let pending = l.pending;
+    match pending {
+        Open::Shut => {
+            let mut next = l;
+            next.internal = 0xA5;
+            Step {
+                course: Course::Went(0),
+                load: next,
+            }
+        }
+        Open::Table {
+            held: _,
+            missing: _,
+        } => failed_by(0x6985, l),
+        Open::Record {
+            tag: _,
+            written: _,
+            missing: _,
+        } => failed_by(0x6985, l),
+    }
+}
+
+// The groupings, and then the end.
+fn walked_on(l: Loading, area: &mut [u8], capacity: u8, p1: u8, d: &[u8], at: usize) -> Step
+    requires { ⌜ (at ≤ length (now d)) × Walking at (now d) (stateOf l (now area)) ⌝ }
+    ensures { λ r. ⌜ ended r (now (area .exit)) ≡ thence (walk (length (now (d .entry)) - at) capacity (length (now (d .entry))) p1 (drop at (now (d .entry))) (stateOf l (now (area .entry)))) (λ n. theEnd p1) ⌝ }
+{
+    let s = walked(l, area, capacity, p1, d, at);
+    let load = s.load;
+    let course = s.course;
+    match course {
+        Course::Went(_) => ended_by(load, p1),
+        Course::Asked(t) => Step {
+            course: Course::Asked(t),
+            load: load,
+        },
+        Course::Failed(w) => failed_by(w, load),
+    }
+}
+
+// A whole command.
+pub fn commanded(l: Loading, area: &mut [u8], capacity: u8, p1: u8, d: &[u8]) -> Step
+    requires { ⌜ Sure l (now area) ⌝ }
+    ensures { λ r. ⌜ ended r (now (area .exit)) ≡ command capacity p1 (now (d .entry)) (stateOf l (now (area .entry))) ⌝ }
+{
+    let s = feed::fed_first(l, area, d);
+    let load = s.load;
+    let course = s.course;
+    match course {
+        Course::Went(at) => walked_on(load, area, capacity, p1, d, at),
+        Course::Asked(t) => Step {
+            course: Course::Asked(t),
+            load: load,
+        },
+        Course::Failed(w) => failed_by(w, load),
+    }
 }

@@ -2,4 +2,7 @@
 pub mod Units
 pub mod Packing
 pub mod Stepping
+pub mod Filling
+pub mod Commands
+pub mod Laying
 pub mod Pulls

@@ -8,7 +8,7 @@ use native.Mathlib.Omega.{arith}
 use lib.Dec.{ltb, leb}
 use lib.ListN.{length, take, drop, length-take, length-drop}
 use lib.Seq.{drop-drop, take-length, drop-length, take-take, take-nil, length-take-le}
-use borrow.Author.Tests.{leb-true, leb-false, ltb-true, ltb-false}
+use borrow.Author.Tests.{leb-true, leb-false, ltb-true, ltb-false, lt-ltb, le-ltb}
 use Rattle.lists.specs.Bytes.{part}
 use Rattle.lists.specs.Choice.{by-cond}
 use Rattle.lists.specs.Least.{take-least, drop-least}
@@ -20,13 +20,9 @@ use Rattle.model.specs.Header.{headerOf}
 use Rattle.model.specs.Order.{spannable, single, groupingUnits, unitsBy, unitsIn, packed}
 use Rattle.order.specs.declared.Step.{Step}
 use Rattle.order.specs.Steps.{unitStep, groupingStep, headStep, insideStep, stepOf}
-use Rattle.order.specs.Cuts.{Fitting}
+use Rattle.order.specs.Cuts.{Fitting, unitsOf}
 use Rattle.order.proofs.Units.{Within, header-within, units-none, units-at}
 use Rattle.order.proofs.Packing.{packed-fits, packed-closes, packed-single, fitting-head, fitting-tail, fitting-single}
-
--- the units of bytes of which the first `inside` are a spannable value's
-abbrev pub unitsOf : ℕ → ℕ → List ℕ → List (List ℕ)
-unitsOf fuel inside rest = single (take inside rest) ++ unitsIn fuel (drop inside rest)
 
 -- the command closes here: it has something, and the next one begins with the next unit
 pub record Closes (cur : List ℕ) (us : List (List ℕ)) : Type 0 where
@@ -170,3 +166,13 @@ step-stepped fuel cur rest inside room r p l f =
     (λ t. inside-stepped fuel cur rest inside room r p (ltb-true 0 inside t) f)
     (λ t. let e : inside ≡ 0 = let g : inside ≤ 0 = ltb-false 0 inside t in omega arith in
     rw e (first-stepped fuel cur rest room r p l (rw e at f)))
+
+-- a step by its place in the whole order
+module _ (order : List ℕ) (at inside room : ℕ) where
+  pub step-inside : 0 < inside → stepOf (drop at order) inside room ≡ insideStep inside (length order - at) room
+  unfolding stepOf
+  step-inside h = rw (lt-ltb 0 inside h, length-drop)
+
+  pub step-head : inside ≤ 0 → (h : Header) → headerOf (drop at order) ≡ h → stepOf (drop at order) inside room ≡ headStep h (length order - at) room
+  unfolding stepOf
+  step-head n h e = rw (le-ltb 0 inside n, e, length-drop)

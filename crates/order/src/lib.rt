@@ -105,19 +105,19 @@ fn grouping_step(head: Head, left: usize, room: usize) -> Step
 }
 
 // What a command with this much room takes next.
-fn step_at(order: &[u8], place: Place, room: usize) -> Step
-    requires { ⌜ place .at ≤ length (now order) ⌝ }
-    ensures { λ r. ⌜ r ≡ stepOf (drop (place .at) (now (order .entry))) (place .inside) room ⌝ }
+fn step_at(order: &[u8], at: usize, inside: usize, room: usize) -> Step
+    requires { ⌜ at ≤ length (now order) ⌝ }
+    ensures { λ r. ⌜ r ≡ stepOf (drop at (now (order .entry))) inside room ⌝ }
 {
-    let left = order.len() - place.at;
-    if 0 < place.inside {
-        let taken = least(least(place.inside, room), left);
+    let left = order.len() - at;
+    if 0 < inside {
+        let taken = least(least(inside, room), left);
         return Step {
             taken: taken,
-            inside: place.inside - taken,
+            inside: inside - taken,
         };
     }
-    let h = header::header_at(order, place.at);
+    let h = header::header_at(order, at);
     match h {
         Header::Torn => unit_step(left, room, 0),
         Header::Whole(head) => grouping_step(head, left, room),
@@ -132,14 +132,8 @@ fn command_end(order: &[u8], start: Place) -> Place
     let mut at = start.at;
     let mut inside = start.inside;
     while at < order.len() {
-        let step = step_at(
-            order,
-            Place {
-                at: at,
-                inside: inside,
-            },
-            DATA_ROOM - (at - start.at),
-        );
+        let room = DATA_ROOM - (at - start.at);
+        let step = step_at(order, at, inside, room);
         if step.taken == 0 {
             return Place {
                 at: at,

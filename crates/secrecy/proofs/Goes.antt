@@ -1,6 +1,6 @@
 -- Whether a grouping passes is decided without the bytes of a secret's value, without those behind the grouping, and without the kept secrets.
 use Prim.Native.Nat.{ℕ, _-_}
-use mathlib.Core.Path.{_≡_, refl, ap, sym, _∙_}
+use mathlib.Core.Path.{_≡_, refl}
 use mathlib.Core.Bool.{Bool, true, false, true≢false, _||_}
 use mathlib.Core.List.{List}
 use lib.Dec.{eqb, leb}
@@ -9,13 +9,12 @@ use Rattle.lists.specs.Choice.{by-cond}
 use Rattle.model.specs.declared.Open.{Open}
 use Rattle.model.specs.declared.Open.the-variants.{Shut, Table, Record}
 use Rattle.model.specs.declared.Head.{Head}
-use Rattle.model.specs.declared.Header.{Header}
-use Rattle.model.specs.declared.Header.the-variants.{Torn, Whole}
+use Rattle.model.specs.declared.Header.the-variants.{Whole}
 use Rattle.model.specs.declared.Verdict.{Verdict}
 use Rattle.model.specs.Rows.{rowOf, rowAt, rowTable, due}
 use Rattle.model.specs.Header.{headerOf}
 use Rattle.model.specs.Loads.{State, fileList, withTaken, withOpen, changed}
-use Rattle.model.specs.Rules.{Result, went, asked, failed, Rule, thence, judged, unless, wholeHead, isQuery, ruleA, ruleB, ruleC, ruleD, ruleE, ruleF, ruleG, ruleH, dueRow, roomOf, lengthOk, kept, startup, openedAs, feeding, fed, spanned, whole, tableBytes, grouping}
+use Rattle.model.specs.Rules.{Result, went, asked, failed, Rule, thence, judged, unless, isQuery, ruleA, ruleB, ruleC, ruleD, ruleE, ruleF, ruleG, ruleH, dueRow, roomOf, lengthOk, kept, startup, openedAs, feeding, fed, spanned, whole, tableBytes, grouping}
 use Rattle.secrecy.specs.View.{isSecret, missingIn, Hiding}
 use Rattle.secrecy.specs.Veil.{veilState}
 use Rattle.secrecy.proofs.Veils.{veilResult}

@@ -1,7 +1,7 @@
 -- What the view leaves: the length, the header, and every byte that is not a secret's.
 use Prim.Native.Nat.{ℕ, zero, suc}
 use mathlib.Core.Path.{_≡_, refl, ap, sym, _∙_}
-use mathlib.Core.Bool.{true≢false, Bool, true, false, _&&_}
+use mathlib.Core.Bool.{true≢false, true, false, _&&_}
 use mathlib.Core.List.{List, [], _∷_}
 use lib.ListN.{length}
 use Rattle.lists.specs.Bytes.{byteAt}

@@ -1,7 +1,7 @@
 -- Demand 3, "Secrets stay secret", over the definition of document 01. A grouping, a command, an event and a session that are given what may
 -- be seen, on a veiled card, do the same (Marks to Turns); so two sessions that look alike are alike (Cards, Sessions, Calls, Replay).
--- What is hidden is what the card keeps as a secret, byte for byte (Places to Kept), the view tells which bytes those are (Told), and
--- it leaves all others (Leaves, Witnesses).
+-- What is hidden is what the card keeps as a secret, byte for byte (Places to Kept); the view tells which bytes those are (Told), and
+-- leaves all others (Leaves); a session that differs from another only in such bytes looks like it (Goes to Differ). Witnesses last.
 pub mod Marks
 pub mod Veils
 pub mod Rules

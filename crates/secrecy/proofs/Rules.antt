@@ -14,9 +14,8 @@ use Rattle.model.specs.declared.Verdict.{Verdict}
 use Rattle.model.specs.declared.Verdict.the-variants.{Passes, Refuses}
 use Rattle.model.specs.Rows.{due}
 use Rattle.model.specs.Table.{descriptorOf, admitOf}
-use Rattle.model.specs.Loads.{State, fileList, withInternal, withTaken, withOpen, changed}
-use Rattle.model.specs.Rules
-use Rattle.model.specs.Rules.{Result, went, asked, failed, judged, isQuery, aloneAtStart, bit1, bit8, challenged, query, ruleB, ruleC, startup, tableDone, recordDone, described, tableByte, inTable, tableBytes, recordBytes}
+use Rattle.model.specs.Loads.{State, fileList, withInternal, withTaken, withOpen, withFile, changed}
+use Rattle.model.specs.Rules.{Result, went, asked, failed, judged, isQuery, aloneAtStart, bit1, bit8, challenged, query, ruleB, ruleC, startup, tableDone, recordDone, described, tableByte, inTable, tableBytes, laid, tagSpot, recordBytes}
 use Rattle.secrecy.specs.View.{Hiding}
 use Rattle.secrecy.specs.Veil.{veilState}
 use Rattle.secrecy.proofs.Veils.{veilResult, veil-cond, veil-thence}
@@ -81,7 +80,7 @@ module _ (z : Hiding) where
   veil-done (suc m) s = refl
 
   veil-described : (v : Verdict) (d : Descriptor) (missing : ℕ) (s : State) → described v d missing (veilState z s) ≡ veilResult z (described v d missing s)
-  veil-described (Passes n) d missing s = ap (λ (t : State). went 0 t) (veil-done missing (changed (Rattle.model.specs.Loads.withFile d) s))
+  veil-described (Passes n) d missing s = ap (λ (t : State). went 0 t) (veil-done missing (changed (withFile d) s))
   veil-described (Refuses w) d missing s = refl
 
   veil-byte : (held missing b : ℕ) (s : State) → tableByte held missing b (veilState z s) ≡ veilResult z (tableByte held missing b s)
@@ -115,4 +114,4 @@ module _ (z : Hiding) where
   unfolding recordBytes
   veil-record tag written missing v s =
       veil-recordDone tag (written + length v) (missing - length v)
-      (record { load = s .load; area = Rules.laid (Rules.tagSpot (fileList (s .load)) tag) written v (s .area) })
+      (record { load = s .load; area = laid (tagSpot (fileList (s .load)) tag) written v (s .area) })

@@ -10,7 +10,7 @@ use Rattle.model.specs.declared.Secret.{Secret}
 use Rattle.model.specs.Loads.{State, withSecret, changed}
 use Rattle.model.specs.Rules.{Result, went, asked, failed, Rule, thence}
 use Rattle.secrecy.specs.View.{Hiding}
-use Rattle.secrecy.specs.Veil.{blotted, veilSecret, veilSecrets, veilState}
+use Rattle.secrecy.specs.Veil.{blotted, veilSecret, veilSecrets, withSecrets, veilState}
 use Rattle.secrecy.proofs.Marks.{length-blotted, blotted-append}
 
 -- a secret as it is kept
@@ -37,7 +37,7 @@ module _ (z : Hiding) where
       → changed (withSecret k (keptAs (blotted (z k) 0 v))) (veilState z s) ≡ veilState z (changed (withSecret k (keptAs v)) s)
   veil-secret k v s =
       rw (veil-kept (z k) v)
-      (ap (λ (xs : List Secret). record { load = record { internal = s .load .internal; rows = s .load .rows; last = s .load .last; pending = s .load .pending; held = s .load .held; files = s .load .files; count = s .load .count; serial = s .load .serial; startup = s .load .startup; counter = s .load .counter; secrets = xs }; area = s .area })
+      (ap (λ (xs : List Secret). record { load = withSecrets xs (s .load); area = s .area })
       (rw zero-add at (veil-set 0 k (keptAs v) (s .load .secrets))))
 
   pub veil-cond : {A : Type 0} (b : Bool) (x y : Result A) → cond b (veilResult x) (veilResult y) ≡ veilResult (cond b x y)

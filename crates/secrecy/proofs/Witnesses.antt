@@ -7,11 +7,12 @@ use lib.Dec.{T}
 use lib.ListN.{replicate}
 use Rattle.lists.specs.Bytes.{same, zeros}
 use Rattle.model.specs.declared.Life.{Life}
-use Rattle.model.specs.Stored.{Event, recordOf}
+use Rattle.model.specs.Stored.{Event, recordOf, areaSize}
 use Rattle.model.specs.Events.{withLife}
 use Rattle.model.proofs.Computed.{computed}
-use Rattle.model.proofs.Scenes.{Bytes, event, install, select, command, serial, startup, counter, key, table, df, linear, begun, asked, loaded, turns, endOf}
-use Rattle.secrecy.specs.View.{every, secretMarks, marksWalk, marksCommand, marksIn, view, viewRecord}
+use Rattle.model.proofs.Scenes.{Bytes, blankCard, event, install, select, command, serial, startup, counter, key, table, df, linear, begun, asked, loaded, turns, endOf}
+use Rattle.secrecy.specs.View.{every, secretMarks, marksWalk, marksCommand, marksIn, view, viewRecord, viewsFrom}
+use Rattle.secrecy.specs.Alike.{secretOf}
 
 -- a record that comes after a session of a fresh card of capacity 10, of which the card's life cycle is then made another, and what may be
 -- seen of the record
@@ -115,3 +116,30 @@ allHold (x ∷ xs) = holds x && allHold xs
 pub cases-hold : T (allHold cases)
 unfolding computed cases holds allHold secretMarks marksWalk marksCommand marksIn view
 cases-hold = tt
+
+-- two loadings that differ in every key byte: they look alike, and the cards keep what each was given, so that the theorems speak of something
+abbrev keyOf : ℕ → ℕ → ℕ → Bytes
+keyOf hi lo v = hi ∷ lo ∷ 16 ∷ replicate 16 v
+
+abbrev loading : ℕ → List Event
+loading v = asked (command 0x80 (toSecrets ++ keyOf 0x38 0x00 v ++ keyOf 0x41 0x01 v ++ keyOf 0x41 0x02 v ++ keyOf 0x41 0x03 v) ∷ select ∷ [])
+
+unfoldable pub records : List Event → List Bytes
+records [] = []
+records (e ∷ es) = recordOf e ∷ records es
+
+unfoldable pub sameAll : List Bytes → List Bytes → Bool
+sameAll [] [] = true
+sameAll [] (y ∷ ys) = false
+sameAll (x ∷ xs) [] = false
+sameAll (x ∷ xs) (y ∷ ys) = same x y && sameAll xs ys
+
+abbrev viewsOf : ℕ → List Bytes
+viewsOf v = viewsFrom every (blankCard 10) (zeros areaSize) (records (loading v))
+
+abbrev keptKey : ℕ → Bytes
+keptKey v = secretOf (endOf (turns 10 (loading v)) .card) 3 .bytes
+
+pub look-alike : T (sameAll (viewsOf 0x5C) (viewsOf 0xC5) && same (keptKey 0x5C) (replicate 16 0x5C ++ zeros 48) && same (keptKey 0xC5) (replicate 16 0xC5 ++ zeros 48))
+unfolding computed records sameAll secretMarks marksWalk marksCommand marksIn view viewsFrom
+look-alike = tt

@@ -1,7 +1,7 @@
 -- Two cards, events and sessions that are alike in all but the hidden bytes of the kept secrets.
 use Prim.Native.Nat.{ℕ, zero, suc}
 use mathlib.Core.Path.{_≡_}
-use mathlib.Core.Bool.{true, false}
+use mathlib.Core.Bool.{Bool, true, false, not}
 use mathlib.Core.List.{List, [], _∷_}
 use lib.ListN.{length, getD, take}
 use Rattle.lists.specs.Bytes.{byteAt}
@@ -9,7 +9,7 @@ use Rattle.model.specs.declared.Secret.{Secret}
 use Rattle.model.specs.declared.Card.{Card}
 use Rattle.model.specs.Stored.{noSecret}
 use Rattle.model.specs.Session.{Turn, refusedBy, turnOf, playOf, Run, runFrom}
-use Rattle.secrecy.specs.View.{Mark, seen, markAt, marksIn, Hiding}
+use Rattle.secrecy.specs.View.{Mark, seen, secret, markAt, marksIn, Hiding}
 
 abbrev pub secretOf : Card → ℕ → Secret
 secretOf c k = getD (c .loading .secrets) k noSecret
@@ -68,15 +68,20 @@ pub record AlikeSessions (z : Hiding) (c d : Card) (a : List ℕ) (x y : List (L
   pub events : (k : ℕ) → AlikeTurns z (turnAt c a x k) (turnAt d a y k)
   pub runs : (k : ℕ) → AlikeRuns z (runFrom (start c a) (take k x)) (runFrom (start d a) (take k y))
 
--- a record and another that is like it but for the bytes that are marked as a secret's: as long, and equal in each other byte
-pub record ButForSecrets (ms : List Mark) (r q : List ℕ) : Type 0 where
+-- a byte with this mark may be seen
+abbrev pub shows : Hiding → Mark → Bool
+shows z seen = true
+shows z (secret k j) = not (z k j)
+
+-- a record and another that is like it but for hidden bytes: as long, and equal in each byte that may be seen
+pub record ButForSecrets (z : Hiding) (ms : List Mark) (r q : List ℕ) : Type 0 where
   pub size : length r ≡ length q
-  pub bytes : (i : ℕ) → markAt ms i ≡ seen → byteAt r i ≡ byteAt q i
+  pub bytes : (i : ℕ) → shows z (markAt ms i) ≡ true → byteAt r i ≡ byteAt q i
 
 -- A session and another that is like it but for value bytes inside '3800' and '410n' groupings that pass all their checks: those that the
 -- first's own run marks. Of the other's run nothing is asked.
-unfoldable pub Differs : Card → List ℕ → List (List ℕ) → List (List ℕ) → Type 0
-Differs c a [] [] = Unit {0}
-Differs c a [] (q ∷ qs) = ⊥
-Differs c a (r ∷ rs) [] = ⊥
-Differs c a (r ∷ rs) (q ∷ qs) = ButForSecrets (marksIn c a r) r q × Differs (turnOf c a r .card) (turnOf c a r .area) rs qs
+unfoldable pub Differs : Hiding → Card → List ℕ → List (List ℕ) → List (List ℕ) → Type 0
+Differs z c a [] [] = Unit {0}
+Differs z c a [] (q ∷ qs) = ⊥
+Differs z c a (r ∷ rs) [] = ⊥
+Differs z c a (r ∷ rs) (q ∷ qs) = ButForSecrets z (marksIn c a r) r q × Differs z (turnOf c a r .card) (turnOf c a r .area) rs qs

@@ -24,8 +24,8 @@ unfoldable pub veilSecrets : Hiding → ℕ → List Secret → List Secret
 veilSecrets z k [] = []
 veilSecrets z k (x ∷ xs) = veilSecret (z k) x ∷ veilSecrets z (suc k) xs
 
-abbrev pub veilLoading : Hiding → Loading → Loading
-veilLoading z l = record {
+abbrev pub withSecrets : List Secret → Loading → Loading
+withSecrets xs l = record {
   internal = l .internal;
   rows = l .rows;
   last = l .last;
@@ -36,8 +36,11 @@ veilLoading z l = record {
   serial = l .serial;
   startup = l .startup;
   counter = l .counter;
-  secrets = veilSecrets z 0 (l .secrets);
+  secrets = xs;
 }
+
+abbrev pub veilLoading : Hiding → Loading → Loading
+veilLoading z l = withSecrets (veilSecrets z 0 (l .secrets)) l
 
 abbrev pub veil : Hiding → Card → Card
 veil z c = record { chip = c .chip; life = c .life; loading = veilLoading z (c .loading) }

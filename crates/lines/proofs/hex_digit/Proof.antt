@@ -1,16 +1,7 @@
-use Prim.Native.Nat.{ℕ, suc, _+_, _*_, _-_, _≤_, _<_, _/_, _%_}
-use mathlib.Core.Path.{_≡_, refl, ap, sym, _∙_}
-use mathlib.Core.List.{List, [], _∷_, _++_}
-use native.Mathlib.Omega.{arith}
-use native.Mathlib.Numerals.{add-one}
-use lib.ListN.{length, take, drop, set, getD, length-set, length-take, length-drop, length-append}
-use denote.Ref.{now}
 use borrow.Author.Needs.{needs}
 use Rattle.lists.specs.Choice.{cases}
 use Rattle.lines.proofs.hex_digit.Statement.{statement}
 use Rattle.lines.proofs.hex_digit.Tie as tie
-use Rattle.lines.proofs.hex_digit.Reads as reads
-use Rattle.lines.proofs.hex_digit.Lts as lts
 
 add-result : tie.Need-add-result
 add-result c = search needs

@@ -1,9 +1,7 @@
-use Prim.Native.Nat.{ℕ, suc, _+_, _*_, _-_, _≤_, _<_, _/_, _%_}
-use mathlib.Core.Path.{_≡_, refl, ap, sym, _∙_}
-use mathlib.Core.List.{List, [], _∷_, _++_}
+use Prim.Native.Nat.{_+_}
+use mathlib.Core.Path.{refl, ap, _∙_}
 use native.Mathlib.Omega.{arith}
-use native.Mathlib.Numerals.{add-one}
-use lib.ListN.{length, take, drop, set, getD, length-set, length-take, length-drop, length-append}
+use lib.ListN.{length, length-set}
 use denote.Ref.{now}
 use borrow.Author.Needs.{needs}
 use Rattle.model.specs.Lines.{five, two}
@@ -11,10 +9,6 @@ use Rattle.lists.specs.Over.{length-over}
 use Rattle.lines.proofs.Runs.{run-fields}
 use Rattle.lines.proofs.put_counts.Statement.{statement}
 use Rattle.lines.proofs.put_counts.Tie as tie
-use Rattle.lines.proofs.put_counts.Reads as reads
-use Rattle.lines.proofs.put_counts.Lts as lts
-use Rattle.lines.proofs.put_five.Reads as put-five-reads
-use Rattle.lines.proofs.put_two.Reads as put-two-reads
 
 put-five-requires : tie.Need-put-five-requires
 put-five-requires c κs = search needs

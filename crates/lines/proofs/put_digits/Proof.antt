@@ -1,18 +1,13 @@
-use Prim.Native.Nat.{ℕ, suc, _+_, _*_, _-_, _≤_, _<_, _/_, _%_}
-use mathlib.Core.Path.{_≡_, refl, ap, sym, _∙_}
-use mathlib.Core.List.{List, [], _∷_, _++_}
+use Prim.Native.Nat.{_≤_}
+use mathlib.Core.Path.{_≡_, sym, _∙_}
 use native.Mathlib.Omega.{arith}
-use native.Mathlib.Numerals.{add-one}
-use lib.ListN.{length, take, drop, set, getD, length-set, length-take, length-drop, length-append}
-use denote.Ref.{now}
+use lib.ListN.{length, length-set}
 use borrow.Author.Needs.{needs}
-use Rattle.lines.proofs.Digits.{digits-more}
+use Rattle.lines.proofs.Digits.{digits-more, digits-none}
 use Rattle.lines.specs.Trace.{lastDigits}
-use Rattle.lists.specs.Over.{overwrite, over-none, length-over}
+use Rattle.lists.specs.Over.{overwrite}
 use Rattle.lines.proofs.put_digits.Statement.{statement}
 use Rattle.lines.proofs.put_digits.Tie as tie
-use Rattle.lines.proofs.put_digits.Reads as reads
-use Rattle.lines.proofs.put_digits.Lts as lts
 
 abbrev Inv-loop : tie.InvT-loop
 Inv-loop out₀ at n w rest₀ i₀ out rest i =
@@ -37,19 +32,24 @@ add-out-2 : tie.Need-add-out-2 Inv-loop μ-loop
 add-out-2 c = search needs
 
 slice-write-out : tie.Need-slice-write-out Inv-loop μ-loop
-slice-write-out c = ?
+slice-write-out c = omega arith
 
 loop-less : tie.Need-loop-less Inv-loop μ-loop
 loop-less c = search needs
 
 loop-again : tie.Need-loop-again Inv-loop μ-loop
-loop-again c = ?
+loop-again c =
+    let l = c .before .loop in
+    let a = c .before .before .args in
+    (omega arith, simp length-set (l .inv .1), digits-more (l .out) (a .at) (l .i) (l .rest) (omega arith) ∙ l .inv .2)
 
 same-length : tie.Need-same-length Inv-loop μ-loop
-same-length c = ?
+same-length c = c .before .loop .inv .1
 
 returns : tie.Need-returns Inv-loop μ-loop
-returns c = ?
+returns c =
+    let l = c .before .loop in
+    sym (digits-none (l .out) (c .before .before .args .at) (l .i) (l .rest) (omega arith)) ∙ l .inv .2
 
 pub put-digits-spec : {M : Type 1} → statement M
 put-digits-spec =

@@ -1,18 +1,12 @@
-use Prim.Native.Nat.{ℕ, suc, _+_, _*_, _-_, _≤_, _<_, _/_, _%_}
-use mathlib.Core.Path.{_≡_, refl, ap, sym, _∙_}
-use mathlib.Core.List.{List, [], _∷_, _++_}
+use mathlib.Core.Path.{_∙_}
 use native.Mathlib.Omega.{arith}
-use native.Mathlib.Numerals.{add-one}
-use lib.ListN.{length, take, drop, set, getD, length-set, length-take, length-drop, length-append}
+use lib.ListN.{length-set}
 use denote.Ref.{now}
 use borrow.Author.Needs.{needs}
 use Rattle.lists.specs.Over.{length-over}
 use Rattle.lines.proofs.Runs.{run-five}
 use Rattle.lines.proofs.put_five.Statement.{statement}
 use Rattle.lines.proofs.put_five.Tie as tie
-use Rattle.lines.proofs.put_five.Reads as reads
-use Rattle.lines.proofs.put_five.Lts as lts
-use Rattle.lines.proofs.put_two.Reads as put-two-reads
 
 cast-out : tie.Need-cast-out
 cast-out c = search needs

@@ -1,9 +1,7 @@
-use Prim.Native.Nat.{ℕ, suc, _+_, _*_, _-_, _≤_, _<_, _/_, _%_}
-use mathlib.Core.Path.{_≡_, refl, ap, sym, _∙_}
-use mathlib.Core.List.{List, [], _∷_, _++_}
+use Prim.Native.Nat.{_-_, _≤_, _<_}
+use mathlib.Core.Path.{_≡_, sym, _∙_}
 use native.Mathlib.Omega.{arith}
-use native.Mathlib.Numerals.{add-one}
-use lib.ListN.{length, take, drop, set, getD, length-set, length-take, length-drop, length-append}
+use lib.ListN.{length, take}
 use denote.Ref.{now}
 use borrow.Author.Needs.{needs}
 use lib.Seq.{take-all}
@@ -12,9 +10,6 @@ use Rattle.lines.specs.Trace.{hexOf}
 use Rattle.lists.specs.Over.{overwrite, over-none, length-over}
 use Rattle.lines.proofs.put_hex.Statement.{statement}
 use Rattle.lines.proofs.put_hex.Tie as tie
-use Rattle.lines.proofs.put_hex.Reads as reads
-use Rattle.lines.proofs.put_hex.Lts as lts
-use Rattle.lines.proofs.put_hex2.Reads as put-hex2-reads
 
 abbrev Inv-loop : tie.InvT-loop
 Inv-loop out₀ at bytes i₀ out i = (i ≤ length bytes) × (out ≡ overwrite out₀ at (hexOf (take i bytes)))
@@ -36,7 +31,9 @@ shared-slice-read-put-hex2 : tie.Need-shared-slice-read-put-hex2 Inv-loop μ-loo
 shared-slice-read-put-hex2 c = search needs
 
 put-hex2-requires : tie.Need-put-hex2-requires Inv-loop μ-loop
-put-hex2-requires c κs = ?
+put-hex2-requires c κs =
+    let l = c .before .before .before .loop in
+    rw (l .inv .1, length-over) (omega arith)
 
 add-i : tie.Need-add-i Inv-loop μ-loop
 add-i c = search needs
@@ -45,7 +42,11 @@ loop-less : tie.Need-loop-less Inv-loop μ-loop
 loop-less c = search needs
 
 loop-again : tie.Need-loop-again Inv-loop μ-loop
-loop-again c = ?
+loop-again c =
+    let l = c .before .before .before .before .before .before .loop in
+    let a = c .before .before .before .before .before .before .before .before .before .args in
+    let h : l .i < length (now (a .bytes)) = omega arith in
+    (omega arith, c .before .before .put-hex2 .ensures ∙ rw (l .inv .1) (hex-more (now (a .out)) (now (a .bytes)) (a .at) (l .i) h))
 
 mul-result : tie.Need-mul-result Inv-loop μ-loop
 mul-result c = search needs
@@ -54,10 +55,14 @@ add-result : tie.Need-add-result Inv-loop μ-loop
 add-result c = search needs
 
 same-length : tie.Need-same-length Inv-loop μ-loop
-same-length c = ?
+same-length c = rw (c .before .loop .inv .1, length-over)
 
 returns : tie.Need-returns Inv-loop μ-loop
-returns c = ?
+returns c =
+    let l = c .before .loop in
+    let a = c .before .before .before .before .args in
+    let e : take (l .i) (now (a .bytes)) ≡ now (a .bytes) = take-all (l .i) (now (a .bytes)) (omega arith) in
+    (omega arith, rw (l .inv .1, length-over), l .inv .1 ∙ rw e)
 
 pub put-hex-spec : {M : Type 1} → statement M
 put-hex-spec =

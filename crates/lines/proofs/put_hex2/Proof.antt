@@ -1,17 +1,9 @@
-use Prim.Native.Nat.{ℕ, suc, _+_, _*_, _-_, _≤_, _<_, _/_, _%_}
-use mathlib.Core.Path.{_≡_, refl, ap, sym, _∙_}
-use mathlib.Core.List.{List, [], _∷_, _++_}
 use native.Mathlib.Omega.{arith}
-use native.Mathlib.Numerals.{add-one}
-use lib.ListN.{length, take, drop, set, getD, length-set, length-take, length-drop, length-append}
-use denote.Ref.{now}
+use lib.ListN.{length-set}
 use borrow.Author.Needs.{needs}
 use Rattle.lines.proofs.Runs.{run-two}
 use Rattle.lines.proofs.put_hex2.Statement.{statement}
 use Rattle.lines.proofs.put_hex2.Tie as tie
-use Rattle.lines.proofs.put_hex2.Reads as reads
-use Rattle.lines.proofs.put_hex2.Lts as lts
-use Rattle.lines.proofs.hex_digit.Reads as hex-digit-reads
 
 hex-digit-requires : tie.Need-hex-digit-requires
 hex-digit-requires c κs = search needs

@@ -1,18 +1,11 @@
-use Prim.Native.Nat.{ℕ, suc, _+_, _*_, _-_, _≤_, _<_, _/_, _%_}
-use mathlib.Core.Path.{_≡_, refl, ap, sym, _∙_}
-use mathlib.Core.List.{List, [], _∷_, _++_}
-use native.Mathlib.Omega.{arith}
-use native.Mathlib.Numerals.{add-one}
-use lib.ListN.{length, take, drop, set, getD, length-set, length-take, length-drop, length-append}
+use Prim.Native.Nat.{_+_, _/_, _%_}
+use mathlib.Core.Path.{refl, _∙_}
 use denote.Ref.{now}
 use borrow.Author.Needs.{needs}
 use Rattle.model.specs.Lines.{hex2}
 use Rattle.lines.proofs.Runs.{run-more}
 use Rattle.lines.proofs.put_hex4.Statement.{statement}
 use Rattle.lines.proofs.put_hex4.Tie as tie
-use Rattle.lines.proofs.put_hex4.Reads as reads
-use Rattle.lines.proofs.put_hex4.Lts as lts
-use Rattle.lines.proofs.put_hex2.Reads as put-hex2-reads
 
 cast-put-hex2 : tie.Need-cast-put-hex2
 cast-put-hex2 c = search needs

@@ -1,9 +1,8 @@
-use Prim.Native.Nat.{ℕ, suc, _+_, _*_, _-_, _≤_, _<_, _/_, _%_}
-use mathlib.Core.Path.{_≡_, refl, ap, sym, _∙_}
-use mathlib.Core.List.{List, [], _∷_, _++_}
+use Prim.Native.Nat.{_+_}
+use mathlib.Core.Path.{refl, ap, _∙_}
+use mathlib.Core.List.{[], _∷_, _++_}
 use native.Mathlib.Omega.{arith}
-use native.Mathlib.Numerals.{add-one}
-use lib.ListN.{length, take, drop, set, getD, length-set, length-take, length-drop, length-append}
+use lib.ListN.{length}
 use denote.Ref.{now}
 use borrow.Author.Needs.{needs}
 use Rattle.model.specs.Rows.{takenOf}
@@ -13,13 +12,6 @@ use Rattle.model.specs.Lines.{five, two, hex2, hex4, blank, lineWith}
 use Rattle.lists.specs.Over.{length-over}
 use Rattle.lines.proofs.put_line.Statement.{statement}
 use Rattle.lines.proofs.put_line.Tie as tie
-use Rattle.lines.proofs.put_line.Reads as reads
-use Rattle.lines.proofs.put_line.Lts as lts
-use Rattle.lines.proofs.capped.Reads as capped-reads
-use Rattle.lines.proofs.put_counts.Reads as put-counts-reads
-use Rattle.lines.proofs.put_states.Reads as put-states-reads
-use Rattle.lines.proofs.put_two.Reads as put-two-reads
-use Rattle.rows.proofs.count.Reads as count-reads
 
 capped-requires : tie.Need-capped-requires
 capped-requires c κs = search needs

@@ -6,6 +6,13 @@ use native.Mathlib.Numerals.{add-one}
 use lib.ListN.{length, take, drop, set, getD, length-set, length-take, length-drop, length-append}
 use denote.Ref.{now}
 use borrow.Author.Needs.{needs}
+use borrow.Author.Tests.{eq-eqb, ne-eqb}
+use mathlib.Core.Path.{subst}
+use Rattle.soundness.proofs.Parts.{sound-parts}
+use Rattle.feed.specs.Steps.{stateOf, activeLife}
+use Rattle.soundness.specs.Keeps.{Ruled}
+use Rattle.model.specs.Rules.{spanned, fed, openedAs}
+use Rattle.load.proofs.Openings.{table-opens, record-opens, record-over}
 use Rattle.load.proofs.spanned_at.Statement.{statement}
 use Rattle.load.proofs.spanned_at.Tie as tie
 use Rattle.load.proofs.spanned_at.Reads as reads
@@ -18,9 +25,13 @@ with-open-requires : tie.Need-with-open-requires
 with-open-requires c κs = search needs
 
 table-fed-requires : tie.Need-table-fed-requires
-table-fed-requires c κs = ?
+table-fed-requires c κs =
+    let s = c .before .before .before .before .before in
+    let r = subst (λ (x : ℕ). Ruled (stateOf (s .args .l) (now (s .args .area))) (s .args .h) x (s .args .room)) (c .before .before .before .if1 .taken) (s .pre .2) in
+    rw (c .before .with-open .ensures) (s .pre .4, table-opens (s .args .l) (now (s .args .area)) (s .args .h) (s .args .room) (s .pre .0) (s .pre .1) r)
 
 returns : tie.Need-returns
+unfolding spanned fed
 returns c = ?
 
 record-fed-requires : tie.Need-record-fed-requires
@@ -30,6 +41,7 @@ same-length : tie.Need-same-length
 same-length c = search needs
 
 returns-2 : tie.Need-returns-2
+unfolding spanned fed
 returns-2 c = ?
 
 pub spanned-at-spec : {M : Type 1} → statement M

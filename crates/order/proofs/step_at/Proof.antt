@@ -6,6 +6,9 @@ use native.Mathlib.Numerals.{add-one}
 use lib.ListN.{length, take, drop, set, getD, length-set, length-take, length-drop, length-append}
 use denote.Ref.{now}
 use borrow.Author.Needs.{needs}
+use Rattle.order.proofs.Stepping.{step-inside, step-head}
+use Rattle.order.proofs.Units.{whole-within}
+use Rattle.model.specs.declared.Header.the-variants.{Torn, Whole}
 use Rattle.order.proofs.step_at.Statement.{statement}
 use Rattle.order.proofs.step_at.Tie as tie
 use Rattle.order.proofs.step_at.Reads as reads
@@ -24,11 +27,13 @@ least-requires c κs = search needs
 least-requires-2 : tie.Need-least-requires-2
 least-requires-2 c κs = search needs
 
-sub-t10 : tie.Need-sub-t10
-sub-t10 c = search needs
+sub-t11 : tie.Need-sub-t11
+sub-t11 c = search needs
 
 returns : tie.Need-returns
-returns c = ?
+returns c =
+    let a = c .before .before .before .before .args in
+    rw (c .least2 .ensures, c .before .least .ensures) (sym (step-inside (now (a .order)) (a .at) (a .inside) (a .room) (omega arith)))
 
 header-at-requires : tie.Need-header-at-requires
 header-at-requires c κs = search needs
@@ -43,13 +48,21 @@ enum-known-h : tie.Need-enum-known-h
 enum-known-h c = search needs
 
 grouping-step-requires : tie.Need-grouping-step-requires
-grouping-step-requires c κs = ?
+grouping-step-requires c κs =
+    let a = c .before .before .before .before .before .before .args in
+    let h = c .before .h .given in
+    rw length-drop at (whole-within (drop (a .at) (now (a .order))) (h .0 .0) (sym (c .before .before .before .header-at .ensures) ∙ h .1) .1)
 
 returns-2 : tie.Need-returns-2
-returns-2 c = ?
+returns-2 c =
+    let a = c .before .before .before .before .before .before .args in
+    rw (c .unit-step .ensures) (sym (step-head (now (a .order)) (a .at) (a .inside) (a .room) (omega arith) Torn (sym (c .before .before .before .header-at .ensures) ∙ c .before .enum-told .given .1)))
 
 returns-3 : tie.Need-returns-3
-returns-3 c = ?
+returns-3 c =
+    let a = c .before .before .before .before .before .before .before .args in
+    let h = c .before .before .h .given in
+    rw (c .grouping-step .ensures) (sym (step-head (now (a .order)) (a .at) (a .inside) (a .room) (omega arith) (Whole (h .0 .0)) (sym (c .before .before .before .before .header-at .ensures) ∙ h .1)))
 
 pub step-at-spec : {M : Type 1} → statement M
 step-at-spec =
@@ -58,7 +71,7 @@ step-at-spec =
     sub-left
     least-requires
     least-requires-2
-    sub-t10
+    sub-t11
     returns
     header-at-requires
     enum-told

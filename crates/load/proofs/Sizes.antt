@@ -1,0 +1,41 @@
+-- The lengths that rule f leaves of a row that stays whole.
+use Prim.Native.Nat.{ℕ, _+_, _≤_, _%_}
+use mathlib.Core.Path.{_≡_, refl, ap, sym, _∙_}
+use mathlib.Core.Bool.{Bool, true, false, _&&_, true≢false}
+use mathlib.Core.List.{List}
+use native.Mathlib.Omega.{arith}
+use lib.Dec.{leb, eqb}
+use borrow.Author.Tests.{leb-true}
+use Rattle.model.specs.declared.Descriptor.{Descriptor}
+use Rattle.model.specs.declared.Verdict.the-variants.{Passes}
+use Rattle.model.specs.Rows.{rowTable, rowAt}
+use Rattle.model.specs.Rules.{roomOf, lengthOk}
+use Rattle.soundness.proofs.Tests.{and-l, and-r}
+use Rattle.soundness.proofs.Taking.{by-row}
+use Rattle.soundness.proofs.RowFacts.{room-most}
+use Rattle.load.specs.Steps.{Sized}
+
+-- no row's step is 0
+pub row-steps : (r : ℕ) → 1 ≤ r → r ≤ 11 → 1 ≤ rowAt r .step
+unfolding rowAt rowTable
+row-steps =
+    by-row (λ (r : ℕ). 1 ≤ rowAt r .step) (omega arith) (omega arith) (omega arith) (omega arith) (omega arith) (omega arith) (omega arith) (omega arith)
+    (omega arith) (omega arith) (omega arith)
+
+abbrev Sizes : ℕ → ℕ → Type 0
+Sizes n r = rowAt r .spans ≡ false → rowAt r .least ≤ n → n ≤ rowAt r .most → Sized r n
+
+row-sizes : (n r : ℕ) → 1 ≤ r → r ≤ 11 → Sizes n r
+unfolding rowAt rowTable
+row-sizes n =
+    by-row (Sizes n) (λ e a b. omega arith) (λ e a b. omega arith) (λ e a b. omega arith) (λ e a b. omega arith) (λ e a b. absurd (true≢false e))
+    (λ e a b. omega arith) (λ e a b. omega arith) (λ e a b. omega arith) (λ e a b. omega arith) (λ e a b. omega arith) (λ e a b. absurd (true≢false e))
+
+-- what rules e and f passed of such a row
+pub sized-of : (files : List Descriptor) (tag room n r : ℕ) → 1 ≤ r → r ≤ 11 → rowAt r .spans ≡ false → roomOf files r tag ≡ Passes room
+    → lengthOk r room n ≡ true → Sized r n
+sized-of files tag room n r a b e p h =
+    let m = room-most files tag room r a b e p in
+    let x : rowAt r .least ≤ n = leb-true (rowAt r .least) n (search (and-l, and-r)) in
+    let y : n ≤ room = leb-true n room (search (and-l, and-r)) in
+    row-sizes n r a b e x (omega arith)

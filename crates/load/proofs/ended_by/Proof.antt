@@ -1,0 +1,67 @@
+use Prim.Native.Nat.{ℕ, suc, _+_, _*_, _-_, _≤_, _<_, _/_, _%_}
+use mathlib.Core.Path.{_≡_, refl, ap, sym, _∙_}
+use mathlib.Core.List.{List, [], _∷_, _++_}
+use native.Mathlib.Omega.{arith}
+use native.Mathlib.Numerals.{add-one}
+use lib.ListN.{length, take, drop, set, getD, length-set, length-take, length-drop, length-append}
+use denote.Ref.{now}
+use borrow.Author.Needs.{needs}
+use Rattle.load.proofs.ended_by.Statement.{statement}
+use Rattle.load.proofs.ended_by.Tie as tie
+use Rattle.load.proofs.ended_by.Reads as reads
+use Rattle.load.proofs.ended_by.Lts as lts
+use Rattle.load.proofs.failed_by.Reads as failed-by-reads
+use Rattle.rows.proofs.mandatory_missing.Reads as mandatory-missing-reads
+
+returns : tie.Need-returns
+returns c = ?
+
+mandatory-missing-requires : tie.Need-mandatory-missing-requires
+mandatory-missing-requires c κs = search needs
+
+failed-by-requires : tie.Need-failed-by-requires
+failed-by-requires c κs = search needs
+
+returns-2 : tie.Need-returns-2
+returns-2 c = ?
+
+enum-told : tie.Need-enum-told
+enum-told c = search needs
+
+enum-told-2 : tie.Need-enum-told-2
+enum-told-2 c = search needs
+
+failed-by-requires-2 : tie.Need-failed-by-requires-2
+failed-by-requires-2 c κs = search needs
+
+enum-told-3 : tie.Need-enum-told-3
+enum-told-3 c = search needs
+
+failed-by-requires-3 : tie.Need-failed-by-requires-3
+failed-by-requires-3 c κs = search needs
+
+returns-3 : tie.Need-returns-3
+returns-3 c = ?
+
+returns-4 : tie.Need-returns-4
+returns-4 c = ?
+
+returns-5 : tie.Need-returns-5
+returns-5 c = ?
+
+pub ended-by-spec : {M : Type 1} → statement M
+ended-by-spec =
+    tie.close
+    (tie.spec
+    returns
+    mandatory-missing-requires
+    failed-by-requires
+    returns-2
+    enum-told
+    enum-told-2
+    failed-by-requires-2
+    enum-told-3
+    failed-by-requires-3
+    returns-3
+    returns-4
+    returns-5)

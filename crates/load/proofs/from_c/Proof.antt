@@ -1,0 +1,32 @@
+use Prim.Native.Nat.{ℕ, suc, _+_, _*_, _-_, _≤_, _<_, _/_, _%_}
+use mathlib.Core.Path.{_≡_, refl, ap, sym, _∙_}
+use mathlib.Core.List.{List, [], _∷_, _++_}
+use native.Mathlib.Omega.{arith}
+use native.Mathlib.Numerals.{add-one}
+use lib.ListN.{length, take, drop, set, getD, length-set, length-take, length-drop, length-append}
+use denote.Ref.{now}
+use borrow.Author.Needs.{needs}
+use Rattle.load.proofs.from_c.Statement.{statement}
+use Rattle.load.proofs.from_c.Tie as tie
+use Rattle.load.proofs.from_c.Reads as reads
+use Rattle.load.proofs.from_c.Lts as lts
+use Rattle.load.proofs.failed_by.Reads as failed-by-reads
+use Rattle.load.proofs.from_d.Reads as from-d-reads
+
+failed-by-requires : tie.Need-failed-by-requires
+failed-by-requires c κs = search needs
+
+returns : tie.Need-returns
+returns c = ?
+
+from-d-requires : tie.Need-from-d-requires
+from-d-requires c κs = ?
+
+same-length : tie.Need-same-length
+same-length c = search needs
+
+returns-2 : tie.Need-returns-2
+returns-2 c = ?
+
+pub from-c-spec : {M : Type 1} → statement M
+from-c-spec = tie.close (tie.spec failed-by-requires returns from-d-requires same-length returns-2)

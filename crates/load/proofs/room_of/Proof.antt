@@ -1,0 +1,47 @@
+use Prim.Native.Nat.{ℕ, suc, _+_, _*_, _-_, _≤_, _<_, _/_, _%_}
+use mathlib.Core.Path.{_≡_, refl, ap, sym, _∙_}
+use mathlib.Core.List.{List, [], _∷_, _++_}
+use native.Mathlib.Omega.{arith}
+use native.Mathlib.Numerals.{add-one}
+use lib.ListN.{length, take, drop, set, getD, length-set, length-take, length-drop, length-append}
+use denote.Ref.{now}
+use borrow.Author.Needs.{needs}
+use Rattle.load.proofs.room_of.Statement.{statement}
+use Rattle.load.proofs.room_of.Tie as tie
+use Rattle.load.proofs.room_of.Reads as reads
+use Rattle.load.proofs.room_of.Lts as lts
+use Rattle.feed.proofs.spot_at.Reads as spot-at-reads
+use Rattle.rows.proofs.row_at.Reads as row-at-reads
+
+spot-at-requires : tie.Need-spot-at-requires
+spot-at-requires c κs = search needs
+
+enum-told : tie.Need-enum-told
+enum-told c = search needs
+
+returns : tie.Need-returns
+returns c = ?
+
+enum-known-spot : tie.Need-enum-known-spot
+enum-known-spot c = search needs
+
+returns-2 : tie.Need-returns-2
+returns-2 c = ?
+
+row-at-requires : tie.Need-row-at-requires
+row-at-requires c κs = search needs
+
+returns-3 : tie.Need-returns-3
+returns-3 c = ?
+
+pub room-of-spec : {M : Type 1} → statement M
+room-of-spec =
+    tie.close
+    (tie.spec
+    spot-at-requires
+    enum-told
+    returns
+    enum-known-spot
+    returns-2
+    row-at-requires
+    returns-3)
