@@ -21,7 +21,8 @@ use Rattle.soundness.proofs.Feeding.{Fed}
 use Rattle.soundness.proofs.Changes.{table-begun}
 use Rattle.soundness.proofs.Groupings.{steady-closed}
 use Rattle.soundness.proofs.Opened.{sound-spot}
-use Rattle.soundness.proofs.RowFacts.{due-untaken, table-length, record-room, length-most}
+use Rattle.model.specs.Rows.{rowAt}
+use Rattle.soundness.proofs.RowFacts.{by-span, due-untaken, table-length, record-room, length-most}
 use Rattle.feed.specs.Steps.{stateOf, activeLife, Sure}
 
 module _ (l : Loading) (a : List ℕ) (h : Head) (room : ℕ) (k : Sure l a) where
@@ -53,3 +54,7 @@ pub record-over : (tag w m : ℕ) (o : Open) (l : Loading) (bytes a : List ℕ)
     → feeding (Record tag w m) bytes (stateOf (withOpen o (l .held) l) a) ≡ feeding (Record tag w m) bytes (stateOf l a)
 unfolding recordBytes
 record-over tag w m o l bytes a = rw (done-over tag (w + length (take m bytes)) (m - length (take m bytes)) o l (laid (tagSpot (fileList l) tag) w (take m bytes) a))
+
+-- a row that spans and is not row 5 is row 11
+pub spans-record : (r : ℕ) → 1 ≤ r → r ≤ 11 → rowAt r .spans ≡ true → (r ≡ 5 → ⊥) → r ≡ 11
+spans-record = by-span (λ (r : ℕ). (r ≡ 5 → ⊥) → r ≡ 11) (λ n. absurd (n refl)) (λ n. refl)

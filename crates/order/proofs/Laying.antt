@@ -19,7 +19,7 @@ zeros-mid b z n k h e =
     let f : overwrite (part b n k) 0 (zeros k) ≡ zeros k =
       over-zero (zeros k) (part b n k) (omega arith)
       ∙ rw (drop-of-length-le (part b n k) {i = length (zeros k)} (omega arith)) (append-nil (zeros k)) in
-    rw (e, l, ← f) (over-mid b (zeros k) n k (omega arith) h)
+    rw (e, l) (rw f at (over-mid b (zeros k) n k (omega arith) h))
 
 -- a record's four bytes, its data, and zeros up to its end
 pub record-laid : (a b d z bytes : List ℕ) (to p1 : ℕ) → length bytes ≤ dataRoom → to + recordSize ≤ length a
@@ -33,7 +33,7 @@ record-laid a b d z bytes to p1 h g p q r =
     let k = to + 260 - n in
     let e : k ≡ 256 - length bytes = omega arith in
     let s : length d ≡ length a = rw (q, length-over, p, length-over) in
-    let f = 2 ∷ p1 ∷ 0 ∷ length bytes ∷ [] in
+    let f : List ℕ = 2 ∷ p1 ∷ 0 ∷ length bytes ∷ [] in
     zeros-mid d z n k (omega arith) r
     ∙ rw (q, p, e)
     (sym (over-then f (bytes ++ zeros (256 - length bytes)) a to (to + 4) refl

@@ -5,4 +5,5 @@ pub mod Stepping
 pub mod Filling
 pub mod Commands
 pub mod Laying
+pub mod Records
 pub mod Pulls

@@ -1,15 +1,23 @@
 -- What a pull gives, by what stands at its place.
-use Prim.Native.Nat.{ℕ, _+_, _-_, _≤_, _<_}
-use mathlib.Core.Path.{_≡_}
+use Prim.Native.Nat.{ℕ, _+_, _-_, _≤_, _<_, min}
+use mathlib.Core.Path.{_≡_, sym, ap, subst}
 use mathlib.Core.List.{List}
-use lib.ListN.{length, drop, length-drop}
+use lib.ListN.{length, take, drop, length-drop}
 use native.Mathlib.Omega.{arith}
-use borrow.Author.Tests.{le-leb, lt-leb}
+use lib.Dec.{leb}
+use borrow.Author.Tests.{le-leb, lt-leb, leb-true}
+use Rattle.lists.specs.Bytes.{part}
+use Rattle.lists.specs.Least.{drop-least, part-least}
+use Rattle.lists.specs.Choice.{by-cond}
 use Rattle.model.specs.declared.Head.{Head}
+use Rattle.model.specs.declared.Header.{Header}
 use Rattle.model.specs.declared.Header.the-variants.{Torn, Whole}
+use Rattle.model.specs.declared.Pulled.{Pulled}
 use Rattle.model.specs.declared.Pulled.the-variants.{Ended, Broken, Grouping}
 use Rattle.model.specs.Header.{headerOf}
-use Rattle.model.specs.Order.{pullOf}
+use Rattle.model.specs.Order.{pulledAt, pullOf}
+use Rattle.order.specs.declared.Found.{Found}
+use Rattle.order.specs.Reads.{nextOf, foundAt}
 use Rattle.order.proofs.Units.{whole-within}
 
 module _ (order : List ℕ) (at : ℕ) where
@@ -40,3 +48,34 @@ module _ (order : List ℕ) (at : ℕ) where
           let w : x .size ≤ length order - at = head-there in
           let l : at + x .size + x .len ≤ length order = omega arith in
           rw (lt-leb (length order) at h, e, le-leb (at + x .size + x .len) (length order) l)
+
+-- a grouping that is pulled lies within the order
+abbrev Inside : ℕ → Pulled → Type 0
+Inside n Ended = Unit {0}
+Inside n Broken = Unit {0}
+Inside n (Grouping tag start len) = start + len ≤ n
+
+head-inside : (at n : ℕ) (h : Header) → Inside n (pulledAt h at n)
+head-inside at n Torn = tt
+head-inside at n (Whole h) =
+    by-cond (Inside n) (leb (at + h .size + h .len) n) (λ e. leb-true (at + h .size + h .len) n e) (λ e. tt)
+
+pub pull-inside : (order : List ℕ) (at : ℕ) → Inside (length order) (pullOf order at)
+unfolding pullOf
+pull-inside order at =
+    by-cond (Inside (length order)) (leb (length order) at) (λ e. tt) (λ e. head-inside at (length order) (headerOf (drop at order)))
+
+pub grouping-inside : (order : List ℕ) (at tag start len : ℕ) → Grouping tag start len ≡ pullOf order at → start + len ≤ length order
+grouping-inside order at tag start len e = subst (Inside (length order)) (sym e) (pull-inside order at)
+
+-- what is found is what is pulled, with its next place
+pub found-so : (order : List ℕ) (at next : ℕ) (p : Pulled) → p ≡ pullOf order at → next ≡ nextOf p at
+    → _≡_ {A = Found} (record { pulled = p; next = next }) (foundAt order at)
+found-so order at next p e f = rw (f, e)
+
+-- a part, as far as the order goes
+pub part-so : (order : List ℕ) (start len from n : ℕ) → from ≡ min start (length order) → n ≡ min len (length order - from)
+    → take (from + n - from) (drop from order) ≡ part order start len
+part-so order start len from n e f =
+    let g : from + n - from ≡ min len (length order - from) = omega arith in
+    rw (g, part-least order from len) (ap (λ (l : List ℕ). take len l) (rw e (drop-least start order)))

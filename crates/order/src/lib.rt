@@ -8,7 +8,9 @@ ghost use lib.ListN.{length, take, drop};
 ghost use Rattle.lists.specs.Over.{overwrite};
 ghost use Rattle.model.specs.Stored.{dataRoom, recordSize};
 ghost use Rattle.model.specs.Header.{headerOf};
-ghost use Rattle.model.specs.Order.{pullOf, cutOf, recordsFor, stored, spannable};
+ghost use Rattle.model.specs.Order.{pullOf, cutOf, storedAll, recordsFor, stored, spannable};
+ghost use Rattle.lists.specs.Bytes.{part};
+ghost use Rattle.order.specs.Reads.{nextOf, valueOf, foundAt};
 ghost use Rattle.order.specs.Steps.{unitStep, groupingStep, stepOf};
 ghost use Rattle.order.specs.Cuts.{Fitting, cuttable, unitsFrom, Command, joined};
 
@@ -42,6 +44,95 @@ pub fn pull_at(order: &[u8], at: usize) -> Pulled
     }
 }
 
+// What a pull finds, and where the next one begins: behind the grouping, or where this one did.
+pub struct Found {
+    pub pulled: Pulled,
+    pub next: usize,
+}
+
+pub fn found_at(order: &[u8], at: usize) -> Found
+    ensures { λ r. ⌜ r ≡ foundAt (now (order .entry)) at ⌝ }
+{
+    let pulled = pull_at(order, at);
+    match pulled {
+        Pulled::Grouping { tag: _, start, len } => Found {
+            pulled: pulled,
+            next: start + len,
+        },
+        Pulled::Ended => Found {
+            pulled: pulled,
+            next: at,
+        },
+        Pulled::Broken => Found {
+            pulled: pulled,
+            next: at,
+        },
+    }
+}
+
+fn least(a: usize, b: usize) -> usize
+    ensures { λ r. ⌜ r ≡ min a b ⌝ }
+{
+    if a <= b {
+        return a;
+    }
+    b
+}
+
+// As much of a part as the order has.
+fn part_at(order: &[u8], start: usize, len: usize) -> &[u8]
+    ensures { λ r. ⌜ now r ≡ part (now (order .entry)) start len ⌝ }
+{
+    let from = least(start, order.len());
+    let to = from + least(len, order.len() - from);
+    &order[from..to]
+}
+
+// The value of what was found, as a part of the order; nothing where nothing was.
+pub fn value_of(order: &[u8], found: Found) -> &[u8]
+    ensures { λ r. ⌜ now r ≡ valueOf (now (order .entry)) (found .pulled) ⌝ }
+{
+    let pulled = found.pulled;
+    match pulled {
+        Pulled::Grouping { tag: _, start, len } => part_at(order, start, len),
+        Pulled::Ended => part_at(order, 0, 0),
+        Pulled::Broken => part_at(order, 0, 0),
+    }
+}
+
+// A reader keeps the lent order and its place.
+pub struct Reader<'a> {
+    pub order: &'a [u8],
+    pub at: usize,
+}
+
+// What one pull hands back: what was found, its value as a part of the order, and the reader of the rest.
+pub struct Drawn<'a> {
+    pub rest: Reader<'a>,
+    pub value: &'a [u8],
+    pub found: Found,
+}
+
+// One grouping a pull.
+pub fn pull<'a>(r: Reader<'a>) -> Drawn<'a>
+    ensures { λ p. ⌜ (p .found ≡ foundAt (now (r .entry .order)) (r .entry .at))
+        × (now (p .value) ≡ valueOf (now (r .entry .order)) (pullOf (now (r .entry .order)) (r .entry .at)))
+        × (p .rest .order ≡ r .entry .order)
+        × (p .rest .at ≡ nextOf (pullOf (now (r .entry .order)) (r .entry .at)) (r .entry .at)) ⌝ }
+{
+    let found = found_at(r.order, r.at);
+    let value = value_of(r.order, found);
+    let rest = Reader {
+        order: r.order,
+        at: found.next,
+    };
+    Drawn {
+        rest: rest,
+        value: value,
+        found: found,
+    }
+}
+
 // Where a cutter stands: a place of the order, and how many bytes of a spannable value are still to come there.
 pub struct Place {
     pub at: usize,
@@ -53,15 +144,6 @@ pub struct Place {
 pub struct Step {
     pub taken: usize,
     pub inside: usize,
-}
-
-fn least(a: usize, b: usize) -> usize
-    ensures { λ r. ⌜ r ≡ min a b ⌝ }
-{
-    if a <= b {
-        return a;
-    }
-    b
 }
 
 // The value of a tag may run into the next command; an unknown tag's may not.
@@ -175,15 +257,14 @@ fn lay_record(room: &mut [u8], to: usize, p1: u8, bytes: &[u8])
     slices::clear(&mut room[to + 4 + n..to + RECORD_SIZE]);
 }
 
-// The writer's records: '9484', then a record a command, the last one with P1 '80'.
-pub fn lay_records(order: &[u8], room: &mut [u8])
-    requires { ⌜ cuttable (now order) × (length (recordsFor (now order)) * recordSize ≤ length (now room)) ⌝ }
-    ensures { λ _. ⌜ now (room .exit) ≡ overwrite (now (room .entry)) 0 (joined (recordsFor (now (order .entry)))) ⌝ }
+// A record a command from a place of the room on, P1 '80' on the last.
+fn lay_commands(order: &[u8], room: &mut [u8], from: usize)
+    requires { ⌜ cuttable (now order) × (from + length (cutOf (now order)) * recordSize ≤ length (now room)) ⌝ }
+    ensures { λ _. ⌜ now (room .exit) ≡ overwrite (now (room .entry)) from (joined (storedAll (cutOf (now (order .entry))))) ⌝ }
 {
-    lay_record(room, 0, 0x01, b"\x94\x84\x00");
     let mut start: usize = 0;
     let mut end = command_end(order, Place { at: 0, inside: 0 });
-    let mut to = RECORD_SIZE;
+    let mut to = from;
     while end.at < order.len() {
         let next = end.at;
         lay_record(room, to, 0x00, &order[start..next]);
@@ -192,4 +273,13 @@ pub fn lay_records(order: &[u8], room: &mut [u8])
         end = command_end(order, end);
     }
     lay_record(room, to, 0x80, &order[start..]);
+}
+
+// The writer's records: '9484', then the order's bytes, cut.
+pub fn lay_records(order: &[u8], room: &mut [u8])
+    requires { ⌜ cuttable (now order) × (length (recordsFor (now order)) * recordSize ≤ length (now room)) ⌝ }
+    ensures { λ _. ⌜ now (room .exit) ≡ overwrite (now (room .entry)) 0 (joined (recordsFor (now (order .entry)))) ⌝ }
+{
+    lay_record(room, 0, 0x01, b"\x94\x84\x00");
+    lay_commands(order, room, RECORD_SIZE);
 }

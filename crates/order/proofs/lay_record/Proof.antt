@@ -6,6 +6,7 @@ use native.Mathlib.Numerals.{add-one}
 use lib.ListN.{length, take, drop, set, getD, length-set, length-take, length-drop, length-append}
 use denote.Ref.{now}
 use borrow.Author.Needs.{needs}
+use Rattle.order.proofs.Laying.{record-laid}
 use Rattle.order.proofs.lay_record.Statement.{statement}
 use Rattle.order.proofs.lay_record.Tie as tie
 use Rattle.order.proofs.lay_record.Reads as reads
@@ -53,7 +54,12 @@ same-length : tie.Need-same-length
 same-length c = search needs
 
 returns : tie.Need-returns
-returns c = ?
+returns c =
+    let third = c .before .before in
+    let second = third .before .before .before .before in
+    let first = second .before .before .before .before in
+    let a = first .before .before .before .before .before .args in
+    record-laid (now (a .room)) (first .put-bytes .last .0) (second .put-bytes2 .last .0) (third .clear .last .0) (now (a .bytes)) (a .to) (a .p1) (omega arith) (omega arith) (first .put-bytes .ensures) (second .put-bytes2 .ensures) (third .clear .ensures)
 
 pub lay-record-spec : {M : Type 1} → statement M
 lay-record-spec =

@@ -1,0 +1,65 @@
+use Prim.Native.Nat.{ℕ, suc, _+_, _*_, _-_, _≤_, _<_, _/_, _%_}
+use mathlib.Core.Path.{_≡_, refl, ap, sym, _∙_}
+use mathlib.Core.List.{List, [], _∷_, _++_}
+use native.Mathlib.Omega.{arith}
+use native.Mathlib.Numerals.{add-one}
+use lib.ListN.{length, take, drop, set, getD, length-set, length-take, length-drop, length-append}
+use denote.Ref.{now}
+use borrow.Author.Needs.{needs}
+use Rattle.order.proofs.Pulls.{found-so, grouping-inside}
+use Rattle.order.specs.Reads.{nextOf}
+use Rattle.model.specs.declared.Pulled.the-variants.{Ended, Broken, Grouping}
+use Rattle.model.specs.declared.Pulled.{Pulled}
+use Rattle.order.proofs.found_at.Statement.{statement}
+use Rattle.order.proofs.found_at.Tie as tie
+use Rattle.order.proofs.found_at.Reads as reads
+use Rattle.order.proofs.found_at.Lts as lts
+use Rattle.order.proofs.pull_at.Reads as pull-at-reads
+
+pull-at-requires : tie.Need-pull-at-requires
+pull-at-requires c κs = search needs
+
+enum-known-pulled : tie.Need-enum-known-pulled
+enum-known-pulled c = search needs
+
+add-t7 : tie.Need-add-t7
+add-t7 c =
+    let a = c .before .before .before .before .before .args in
+    let p = c .before .pulled .given in
+    let w = grouping-inside (now (a .order)) (a .at) (p .0 .0) (p .0 .1 .0) (p .0 .1 .1 .0) (sym (p .1) ∙ c .before .before .before .pull-at .ensures) in
+    omega arith
+
+enum-told : tie.Need-enum-told
+enum-told c = search needs
+
+enum-told-2 : tie.Need-enum-told-2
+enum-told-2 c = search needs
+
+returns : tie.Need-returns
+returns c =
+    let a = c .before .before .before .before .before .args in
+    let p = c .before .pulled .given in
+    found-so (now (a .order)) (a .at) _ (Grouping (p .0 .0) (p .0 .1 .0) (p .0 .1 .1 .0)) (sym (p .1) ∙ c .before .before .before .pull-at .ensures) refl
+
+returns-2 : tie.Need-returns-2
+returns-2 c =
+    let a = c .before .before .before .before .args in
+    found-so (now (a .order)) (a .at) _ (c .before .before .pull-at .result) (c .before .before .pull-at .ensures) (rw (c .enum-told .given .1))
+
+returns-3 : tie.Need-returns-3
+returns-3 c =
+    let a = c .before .before .before .before .args in
+    found-so (now (a .order)) (a .at) _ (c .before .before .pull-at .result) (c .before .before .pull-at .ensures) (rw (c .enum-told2 .given .1))
+
+pub found-at-spec : {M : Type 1} → statement M
+found-at-spec =
+    tie.close
+    (tie.spec
+    pull-at-requires
+    enum-known-pulled
+    add-t7
+    enum-told
+    enum-told-2
+    returns
+    returns-2
+    returns-3)

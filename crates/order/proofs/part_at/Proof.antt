@@ -1,0 +1,53 @@
+use Prim.Native.Nat.{ℕ, suc, _+_, _*_, _-_, _≤_, _<_, _/_, _%_}
+use mathlib.Core.Path.{_≡_, refl, ap, sym, _∙_}
+use mathlib.Core.List.{List, [], _∷_, _++_}
+use native.Mathlib.Omega.{arith}
+use native.Mathlib.Numerals.{add-one}
+use lib.ListN.{length, take, drop, set, getD, length-set, length-take, length-drop, length-append}
+use denote.Ref.{now}
+use borrow.Author.Needs.{needs}
+use Rattle.order.proofs.Pulls.{part-so}
+use Rattle.order.proofs.part_at.Statement.{statement}
+use Rattle.order.proofs.part_at.Tie as tie
+use Rattle.order.proofs.part_at.Reads as reads
+use Rattle.order.proofs.part_at.Lts as lts
+use Rattle.order.proofs.least.Reads as least-reads
+
+least-requires : tie.Need-least-requires
+least-requires c κs = search needs
+
+sub-least : tie.Need-sub-least
+sub-least c = search needs
+
+least-requires-2 : tie.Need-least-requires-2
+least-requires-2 c κs = search needs
+
+add-to : tie.Need-add-to
+add-to c = search needs
+
+sub-result : tie.Need-sub-result
+sub-result c = search needs
+
+part-result-start : tie.Need-part-result-start
+part-result-start c = search needs
+
+part-result-end : tie.Need-part-result-end
+part-result-end c = search needs
+
+returns : tie.Need-returns
+returns c =
+    let a = c .before .before .before .before .args in
+    part-so (now (a .order)) (a .start) (a .len) (c .before .before .least .result) (c .before .least2 .result) (c .before .before .least .ensures) (c .before .least2 .ensures)
+
+pub part-at-spec : {M : Type 1} → statement M
+part-at-spec =
+    tie.close
+    (tie.spec
+    least-requires
+    sub-least
+    least-requires-2
+    add-to
+    sub-result
+    part-result-start
+    part-result-end
+    returns)
