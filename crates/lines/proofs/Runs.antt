@@ -40,9 +40,13 @@ module _ (a xs ys zs : List ℕ) (i p q r s t x y z : ℕ)
       (rw (run-one a ((xs ++ x ∷ []) ++ ys) i r y (simp length-append (omega arith)), run-more a (((xs ++ x ∷ []) ++ ys) ++ y ∷ []) zs i s (simp length-append (omega arith)))
       (run-one a ((((xs ++ x ∷ []) ++ ys) ++ y ∷ []) ++ zs) i t z (simp length-append (omega arith))))
 
--- three runs and a character behind them
-module _ (a xs ys zs : List ℕ) (i p q r x : ℕ) (ep : i + length xs ≡ p) (eq : p + length ys ≡ q) (er : q + length zs ≡ r) where
-  pub run-line : set (overwrite (overwrite (overwrite a i xs) p ys) q zs) r x ≡ overwrite a i (((xs ++ ys) ++ zs) ++ x ∷ [])
-  run-line =
-      rw (run-more a xs ys i p ep, run-more a (xs ++ ys) zs i q (simp length-append (omega arith)))
-      (run-one a ((xs ++ ys) ++ zs) i r x (simp length-append (omega arith)))
+-- two runs, and three, with a character behind them
+pub run-end : (a xs ys : List ℕ) (i p q x : ℕ) → i + length xs ≡ p → p + length ys ≡ q
+    → set (overwrite (overwrite a i xs) p ys) q x ≡ overwrite a i ((xs ++ ys) ++ x ∷ [])
+run-end a xs ys i p q x ep eq =
+    rw (run-more a xs ys i p ep) (run-one a (xs ++ ys) i q x (simp length-append (omega arith)))
+
+pub run-line : (a xs ys zs : List ℕ) (i p q r x : ℕ) → i + length xs ≡ p → p + length ys ≡ q → q + length zs ≡ r
+    → set (overwrite (overwrite (overwrite a i xs) p ys) q zs) r x ≡ overwrite a i (((xs ++ ys) ++ zs) ++ x ∷ [])
+run-line a xs ys zs i p q r x ep eq er =
+    rw (run-more a xs ys i p ep) (run-end a (xs ++ ys) zs i q r x (simp length-append (omega arith)) er)

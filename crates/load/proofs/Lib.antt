@@ -1,2 +1,5 @@
+pub mod Facts
 pub mod Openings
 pub mod Sizes
+pub mod Chains
+pub mod Walks

@@ -11,15 +11,15 @@ use Rattle.model.specs.declared.Head.{Head}
 use Rattle.model.specs.declared.Open.{Open}
 use Rattle.model.specs.declared.Open.the-variants.{Shut, Table, Record}
 use Rattle.model.specs.Stored.{areaSize}
-use Rattle.model.specs.Loads.{State, fileList, withOpen}
+use Rattle.model.specs.Loads.{State, fileList, withOpen, withInternal}
 use Rattle.model.specs.Rules.{tagSpot, laid, recordBytes, recordDone, feeding}
 use Rattle.model.specs.Command.{isShut}
 use Rattle.soundness.specs.Keeps.{Ruled}
 use Rattle.soundness.specs.Opened.{RecordOpen}
-use Rattle.soundness.proofs.Inside.{steady-of}
+use Rattle.soundness.proofs.Inside.{steady-of, kept-of}
 use Rattle.soundness.proofs.Feeding.{Fed}
-use Rattle.soundness.proofs.Changes.{table-begun}
-use Rattle.soundness.proofs.Groupings.{steady-closed}
+use Rattle.soundness.proofs.Changes.{table-begun, begun}
+use Rattle.soundness.proofs.Groupings.{Closed, steady-closed, closed-steady}
 use Rattle.soundness.proofs.Opened.{sound-spot}
 use Rattle.model.specs.Rows.{rowAt}
 use Rattle.soundness.proofs.RowFacts.{by-span, due-untaken, table-length, record-room, length-most}
@@ -58,3 +58,10 @@ record-over tag w m o l bytes a = rw (done-over tag (w + length (take m bytes)) 
 -- a row that spans and is not row 5 is row 11
 pub spans-record : (r : ℕ) → 1 ≤ r → r ≤ 11 → rowAt r .spans ≡ true → (r ≡ 5 → ⊥) → r ≡ 11
 spans-record = by-span (λ (r : ℕ). (r ≡ 5 → ⊥) → r ≡ 11) (λ n. absurd (n refl)) (λ n. refl)
+
+-- the state becomes '5A', which is as sound
+pub sure-personal : (l : Loading) (a : List ℕ) → Sure l a → l .pending ≡ Shut → (l .internal ≡ 0xA5 → ⊥) → Sure (withInternal 0x5A l) a
+sure-personal l a k e n =
+    let y = steady-closed areaSize (stateOf l a) (steady-of activeLife areaSize (stateOf l a) refl k) (ap isShut e) in
+    let z : Closed areaSize (stateOf (withInternal 0x5A l) a) = record { inside = begun (y .inside); shut = e; area = k .area } in
+    kept-of activeLife areaSize (stateOf (withInternal 0x5A l) a) (record { gp = refl; selected = refl; name = refl }) (closed-steady areaSize (stateOf (withInternal 0x5A l) a) z)

@@ -58,6 +58,16 @@ fn is_startup(v: &[u8]) -> bool
     v[6] == 0
 }
 
+// The smaller of two bytes.
+fn smaller(a: u8, b: u8) -> u8
+    ensures { λ r. ⌜ r ≡ min a b ⌝ }
+{
+    if a <= b {
+        return a;
+    }
+    b
+}
+
 // The smaller of what was asked and the capacity is kept.
 fn startup_kept(l: Loading, capacity: u8, v: &[u8]) -> Taken
     requires { ⌜ length (now v) ≡ 7 ⌝ }
@@ -70,11 +80,8 @@ fn startup_kept(l: Loading, capacity: u8, v: &[u8]) -> Taken
                 load: l,
             };
         }
-        let asked = v[0];
         let mut bytes = slices::padded7(v);
-        if capacity < asked {
-            bytes[0] = capacity;
-        }
+        bytes[0] = smaller(v[0], capacity);
         let mut next = l;
         next.startup = bytes;
         return Taken {
@@ -151,7 +158,8 @@ fn whole_at(l: Loading, capacity: u8, row: usize, h: Head, d: &[u8], at: usize) 
     requires { ⌜ Sized row (h .len) × (1 ≤ row) × (at + h .len ≤ length (now d)) ⌝ }
     ensures { λ r. ⌜ ((a : List ℕ) → stepped r (now (d .entry)) a ≡ whole capacity row h (drop at (now (d .entry))) (stateOf l a)) ⌝ }
 {
-    let end = at + h.len;
+    let len = h.len;
+    let end = at + len;
     let t = kept_as(l, capacity, row, &d[at..end]);
     let load = t.load;
     let verdict = t.verdict;
@@ -314,13 +322,14 @@ fn is_query(tag: u16) -> bool
 fn challenge_given(l: Loading) -> Step
     ensures { λ r. ⌜ ((a : List ℕ) → ended r a ≡ challenged (stateOf l a)) ⌝ }
 {
-    if l.internal == 0xCC {
-        if rows::is_due(l.rows, l.last, 1, 0x9484) {
-            return Step {
-                course: Course::Asked(0x9484),
-                load: feed::with_taken(l, 1),
-            };
-        }
+    if l.internal != 0xCC {
+        return failed_by(0x6985, l);
+    }
+    if rows::is_due(l.rows, l.last, 1, 0x9484) {
+        return Step {
+            course: Course::Asked(0x9484),
+            load: feed::with_taken(l, 1),
+        };
     }
     failed_by(0x6985, l)
 }
@@ -339,18 +348,20 @@ fn queried(l: Loading, p1: u8, h: Head, n: usize, at: usize) -> Step
     if h.size != n {
         return failed_by(0x6A80, l);
     }
-    if p1 % 2 == 1 {
-        if p1 < 0x80 {
-            if h.tag == 0x9484 {
-                return challenge_given(l);
-            }
-            return Step {
-                course: Course::Asked(h.tag),
-                load: l,
-            };
-        }
+    if p1 % 2 != 1 {
+        return failed_by(0x6A86, l);
     }
-    failed_by(0x6A86, l)
+    if 0x80 <= p1 {
+        return failed_by(0x6A86, l);
+    }
+    let tag = h.tag;
+    if tag == 0x9484 {
+        return challenge_given(l);
+    }
+    Step {
+        course: Course::Asked(tag),
+        load: l,
+    }
 }
 
 // Rules b to h of a grouping whose header is whole; it begins at `at`.
@@ -483,7 +494,13 @@ pub fn commanded(l: Loading, area: &mut [u8], capacity: u8, p1: u8, d: &[u8]) ->
     let load = s.load;
     let course = s.course;
     match course {
-        Course::Went(at) => walked_on(load, area, capacity, p1, d, at),
+        Course::Went(at) => {
+            // nothing is left behind the data
+            if d.len() < at {
+                return ended_by(load, p1);
+            }
+            walked_on(load, area, capacity, p1, d, at)
+        }
         Course::Asked(t) => Step {
             course: Course::Asked(t),
             load: load,

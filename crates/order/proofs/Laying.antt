@@ -17,8 +17,8 @@ zeros-mid b z n k h e =
     let l : length (part b n k) ≡ k = length-take-le k (drop n b) (rw length-drop (omega arith)) in
     let m : length (zeros k) ≡ k = length-replicate k 0 in
     let f : overwrite (part b n k) 0 (zeros k) ≡ zeros k =
-      over-zero (zeros k) (part b n k) (omega arith)
-      ∙ rw (drop-of-length-le (part b n k) {i = length (zeros k)} (omega arith)) (append-nil (zeros k)) in
+    over-zero (zeros k) (part b n k) (omega arith)
+    ∙ rw (drop-of-length-le (part b n k) {i = length (zeros k)} (omega arith)) (append-nil (zeros k)) in
     rw (e, l) (rw f at (over-mid b (zeros k) n k (omega arith) h))
 
 -- a record's four bytes, its data, and zeros up to its end
@@ -26,7 +26,7 @@ pub record-laid : (a b d z bytes : List ℕ) (to p1 : ℕ) → length bytes ≤ 
     → b ≡ overwrite a to (2 ∷ p1 ∷ 0 ∷ length bytes ∷ []) → d ≡ overwrite b (to + 4) bytes
     → z ≡ zeros (length (part d (to + 4 + length bytes) (to + 260 - (to + 4 + length bytes))))
     → take (to + 4 + length bytes) d ++ (z ++ drop (to + 260 - (to + 4 + length bytes)) (drop (to + 4 + length bytes) d))
-        ≡ overwrite a to (stored p1 bytes)
+    ≡ overwrite a to (stored p1 bytes)
 unfolding recordOf
 record-laid a b d z bytes to p1 h g p q r =
     let n = to + 4 + length bytes in

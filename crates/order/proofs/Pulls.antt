@@ -17,7 +17,7 @@ use Rattle.model.specs.declared.Pulled.the-variants.{Ended, Broken, Grouping}
 use Rattle.model.specs.Header.{headerOf}
 use Rattle.model.specs.Order.{pulledAt, pullOf}
 use Rattle.order.specs.declared.Found.{Found}
-use Rattle.order.specs.Reads.{nextOf, foundAt}
+use Rattle.order.specs.Reads.{foundBy, foundAt}
 use Rattle.order.proofs.Units.{whole-within}
 
 module _ (order : List ℕ) (at : ℕ) where
@@ -68,10 +68,9 @@ pull-inside order at =
 pub grouping-inside : (order : List ℕ) (at tag start len : ℕ) → Grouping tag start len ≡ pullOf order at → start + len ≤ length order
 grouping-inside order at tag start len e = subst (Inside (length order)) (sym e) (pull-inside order at)
 
--- what is found is what is pulled, with its next place
-pub found-so : (order : List ℕ) (at next : ℕ) (p : Pulled) → p ≡ pullOf order at → next ≡ nextOf p at
-    → _≡_ {A = Found} (record { pulled = p; next = next }) (foundAt order at)
-found-so order at next p e f = rw (f, e)
+pub found-so : (order : List ℕ) (at : ℕ) (p : Pulled) → p ≡ pullOf order at → foundBy p at ≡ foundAt order at
+unfolding foundAt
+found-so order at p e = rw e
 
 -- a part, as far as the order goes
 pub part-so : (order : List ℕ) (start len from n : ℕ) → from ≡ min start (length order) → n ≡ min len (length order - from)

@@ -75,9 +75,9 @@ module _ (order room₀ : List ℕ) (from : ℕ) where
         keeps = rw (e, length-over) (x .keeps);
         fits = omega arith;
         lays =
-          x .lays ∙ rw n
-          (laid-then room to 0x00 (commandAt start end) (storedAll (commandAt (end .at) next ∷ commandsFrom order next)) (length-command start end (x .size))
-          ∙ rw (← e));
+            x .lays ∙ rw n
+            (laid-then room to 0x00 (commandAt start end) (storedAll (commandAt (end .at) next ∷ commandsFrom order next)) (length-command start end (x .size))
+            ∙ rw (← e));
         fitting = c .fitting;
       }
 

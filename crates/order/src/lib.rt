@@ -3,21 +3,22 @@ use model::Head;
 use model::Header;
 use model::Pulled;
 ghost use mathlib.Core.Path.{_≡_};
-ghost use Prim.Native.Nat.{_+_, _-_, _*_, _≤_, _<_, min};
-ghost use lib.ListN.{length, take, drop};
+ghost use Prim.Native.Nat.{_+_, _*_, _≤_, min};
+ghost use lib.ListN.{length, drop};
 ghost use Rattle.lists.specs.Over.{overwrite};
 ghost use Rattle.model.specs.Stored.{dataRoom, recordSize};
-ghost use Rattle.model.specs.Header.{headerOf};
 ghost use Rattle.model.specs.Order.{pullOf, cutOf, storedAll, recordsFor, stored, spannable};
-ghost use Rattle.lists.specs.Bytes.{part};
-ghost use Rattle.order.specs.Reads.{nextOf, valueOf, foundAt};
+ghost use Rattle.order.specs.Reads.{nothingFound, foundAt, valueOf};
 ghost use Rattle.order.specs.Steps.{unitStep, groupingStep, stepOf};
 ghost use Rattle.order.specs.Cuts.{Fitting, cuttable, unitsFrom, Command, joined};
 
-// "255 data bytes": a command's most.
+// A command's most data bytes.
 const DATA_ROOM: usize = 255;
 
 const RECORD_SIZE: usize = 260;
+
+// A record's bytes before its data: kind, P1, P2, length.
+const FRONT_SIZE: usize = 4;
 
 const STORE_DATA: u8 = 2;
 
@@ -44,28 +45,47 @@ pub fn pull_at(order: &[u8], at: usize) -> Pulled
     }
 }
 
-// What a pull finds, and where the next one begins: behind the grouping, or where this one did.
+// What a pull finds, in numbers: a grouping's tag and where its value lies, the next pull's place, and which of the
+// two endings there was, 0 for none.
 pub struct Found {
-    pub pulled: Pulled,
+    pub tag: u16,
+    pub start: usize,
+    pub len: usize,
     pub next: usize,
+    pub ending: u8,
 }
 
+const ENDED: u8 = 1;
+
+const BROKEN: u8 = 2;
+
+// Nothing was found, and the place stays.
+fn nothing_found(at: usize, ending: u8) -> Found
+    ensures { λ r. ⌜ r ≡ nothingFound at ending ⌝ }
+{
+    Found {
+        tag: 0x0000,
+        start: 0,
+        len: 0,
+        next: at,
+        ending: ending,
+    }
+}
+
+// A pull in numbers.
 pub fn found_at(order: &[u8], at: usize) -> Found
     ensures { λ r. ⌜ r ≡ foundAt (now (order .entry)) at ⌝ }
 {
     let pulled = pull_at(order, at);
     match pulled {
-        Pulled::Grouping { tag: _, start, len } => Found {
-            pulled: pulled,
+        Pulled::Ended => nothing_found(at, ENDED),
+        Pulled::Broken => nothing_found(at, BROKEN),
+        Pulled::Grouping { tag, start, len } => Found {
+            tag: tag,
+            start: start,
+            len: len,
             next: start + len,
-        },
-        Pulled::Ended => Found {
-            pulled: pulled,
-            next: at,
-        },
-        Pulled::Broken => Found {
-            pulled: pulled,
-            next: at,
+            ending: 0,
         },
     }
 }
@@ -79,25 +99,13 @@ fn least(a: usize, b: usize) -> usize
     b
 }
 
-// As much of a part as the order has.
-fn part_at(order: &[u8], start: usize, len: usize) -> &[u8]
-    ensures { λ r. ⌜ now r ≡ part (now (order .entry)) start len ⌝ }
-{
-    let from = least(start, order.len());
-    let to = from + least(len, order.len() - from);
-    &order[from..to]
-}
-
-// The value of what was found, as a part of the order; nothing where nothing was.
+// The value of what was found, as a part of the order, as far as that goes.
 pub fn value_of(order: &[u8], found: Found) -> &[u8]
-    ensures { λ r. ⌜ now r ≡ valueOf (now (order .entry)) (found .pulled) ⌝ }
+    ensures { λ r. ⌜ now r ≡ valueOf (now (order .entry)) found ⌝ }
 {
-    let pulled = found.pulled;
-    match pulled {
-        Pulled::Grouping { tag: _, start, len } => part_at(order, start, len),
-        Pulled::Ended => part_at(order, 0, 0),
-        Pulled::Broken => part_at(order, 0, 0),
-    }
+    let start = least(found.start, order.len());
+    let end = start + least(found.len, order.len() - start);
+    &order[start..end]
 }
 
 // A reader keeps the lent order and its place.
@@ -116,9 +124,9 @@ pub struct Drawn<'a> {
 // One grouping a pull.
 pub fn pull<'a>(r: Reader<'a>) -> Drawn<'a>
     ensures { λ p. ⌜ (p .found ≡ foundAt (now (r .entry .order)) (r .entry .at))
-        × (now (p .value) ≡ valueOf (now (r .entry .order)) (pullOf (now (r .entry .order)) (r .entry .at)))
+        × (now (p .value) ≡ valueOf (now (r .entry .order)) (foundAt (now (r .entry .order)) (r .entry .at)))
         × (p .rest .order ≡ r .entry .order)
-        × (p .rest .at ≡ nextOf (pullOf (now (r .entry .order)) (r .entry .at)) (r .entry .at)) ⌝ }
+        × (p .rest .at ≡ foundAt (now (r .entry .order)) (r .entry .at) .next) ⌝ }
 {
     let found = found_at(r.order, r.at);
     let value = value_of(r.order, found);
@@ -134,14 +142,14 @@ pub fn pull<'a>(r: Reader<'a>) -> Drawn<'a>
 }
 
 // Where a cutter stands: a place of the order, and how many bytes of a spannable value are still to come there.
-pub struct Place {
+struct Place {
     pub at: usize,
     pub inside: usize,
 }
 
 // How much a command takes at once, and how many bytes of a spannable value are then to come; it takes 0 where the
 // next unit doesn't fit.
-pub struct Step {
+struct Step {
     pub taken: usize,
     pub inside: usize,
 }
@@ -253,8 +261,8 @@ fn lay_record(room: &mut [u8], to: usize, p1: u8, bytes: &[u8])
     let n = bytes.len();
     let front = [STORE_DATA, p1, 0x00, n as u8];
     slices::put_bytes(room, to, &front);
-    slices::put_bytes(room, to + 4, bytes);
-    slices::clear(&mut room[to + 4 + n..to + RECORD_SIZE]);
+    slices::put_bytes(room, to + FRONT_SIZE, bytes);
+    slices::clear(&mut room[to + FRONT_SIZE + n..to + RECORD_SIZE]);
 }
 
 // A record a command from a place of the room on, P1 '80' on the last.

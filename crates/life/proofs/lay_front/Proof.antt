@@ -13,6 +13,9 @@ use Rattle.life.proofs.lay_front.Tie as tie
 name-there : (s : tie.Start) → s .args .life .namelen ≤ length (s .args .life .name)
 name-there s = let e : length (s .args .life .name) ≡ 16 = search needs in omega arith
 
+name-long : (s : tie.Start) → length (take (s .args .life .namelen) (s .args .life .name)) ≡ s .args .life .namelen
+name-long s = length-take-le (s .args .life .namelen) (s .args .life .name) (name-there s)
+
 slice-aggregate-put-bytes : tie.Need-slice-aggregate-put-bytes
 slice-aggregate-put-bytes c = search needs
 
@@ -39,9 +42,6 @@ cast-put-byte-2 c = search needs
 
 put-byte-requires-2 : tie.Need-put-byte-requires-2
 put-byte-requires-2 c κs = search needs
-
-name-long : (s : tie.Start) → length (take (s .args .life .namelen) (s .args .life .name)) ≡ s .args .life .namelen
-name-long s = length-take-le (s .args .life .namelen) (s .args .life .name) (name-there s)
 
 array-share-prefix-name : tie.Need-array-share-prefix-name
 array-share-prefix-name c =

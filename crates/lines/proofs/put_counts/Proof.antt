@@ -1,10 +1,7 @@
-use Prim.Native.Nat.{_+_}
 use mathlib.Core.Path.{refl, ap, _∙_}
 use native.Mathlib.Omega.{arith}
 use lib.ListN.{length, length-set}
-use denote.Ref.{now}
 use borrow.Author.Needs.{needs}
-use Rattle.model.specs.Lines.{five, two}
 use Rattle.lists.specs.Over.{length-over}
 use Rattle.lines.proofs.Runs.{run-fields}
 use Rattle.lines.proofs.put_counts.Statement.{statement}
@@ -49,10 +46,8 @@ returns : tie.Need-returns
 returns c =
     let u = c .before .before .before .before .before .before in
     let v = u .before .before .before .before in
-    let a = v .before .before .before .args in
     rw (c .before .before .put-two2 .ensures, u .put-two .ensures, v .put-five .ensures)
-    (run-fields (now (a .out)) (five (a .n)) (two (a .kind)) (two (a .number)) (a .at) (a .at + 5) (a .at + 6) (a .at + 8) (a .at + 9) (a .at + 11) 32 32 32
-    refl (omega arith) (omega arith) (omega arith) (omega arith))
+    (run-fields _ _ _ _ _ _ _ _ _ _ _ _ _ refl (omega arith) (omega arith) (omega arith) (omega arith))
 
 same-length : tie.Need-same-length
 same-length c = ap length (returns c) ∙ length-over _ _ _

@@ -1,12 +1,10 @@
-use Prim.Native.Nat.{ℕ, _+_}
 use mathlib.Core.Path.{refl, ap, _∙_}
-use mathlib.Core.List.{List, [], _∷_, _++_}
 use lib.ListN.{length}
-use denote.Ref.{now}
 use borrow.Author.Needs.{needs}
-use Rattle.model.specs.Lines.{five, endOf}
+use native.Mathlib.Omega.{arith}
+use Rattle.lines.proofs.Runs.{run-end}
+use Rattle.model.specs.Lines.{endOf}
 use Rattle.lists.specs.Over.{length-over}
-use Rattle.lines.proofs.Runs.{run-more, run-one}
 use Rattle.lines.proofs.put_end.Statement.{statement}
 use Rattle.lines.proofs.put_end.Tie as tie
 
@@ -32,10 +30,7 @@ returns : tie.Need-returns
 unfolding endOf
 returns c =
     let u = c .before .before .before .before .before .before in
-    let a = u .before .before .before .before .args in
-    let end : List ℕ = 0x45 ∷ 0x4E ∷ 0x44 ∷ 0x20 ∷ [] in
-    rw (c .before .before .put-five .ensures, u .put-bytes .ensures, run-more (now (a .out)) end (five (a .n)) (a .at) (a .at + 4) refl)
-    (run-one (now (a .out)) (end ++ five (a .n)) (a .at) (a .at + 9) 10 refl)
+    rw (c .before .before .put-five .ensures, u .put-bytes .ensures) (run-end _ _ _ _ _ _ _ refl (omega arith))
 
 same-length : tie.Need-same-length
 same-length c = ap length (returns c) ∙ length-over _ _ _

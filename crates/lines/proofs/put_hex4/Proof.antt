@@ -1,8 +1,5 @@
-use Prim.Native.Nat.{_+_, _/_, _%_}
 use mathlib.Core.Path.{refl, _∙_}
-use denote.Ref.{now}
 use borrow.Author.Needs.{needs}
-use Rattle.model.specs.Lines.{hex2}
 use Rattle.lines.proofs.Runs.{run-more}
 use Rattle.lines.proofs.put_hex4.Statement.{statement}
 use Rattle.lines.proofs.put_hex4.Tie as tie
@@ -27,10 +24,8 @@ same-length c = search needs
 
 returns : tie.Need-returns
 returns c =
-    let a = c .before .before .before .before .before .before .before .before .before .args in
     c .before .before .put-hex22 .ensures
-    ∙ rw (c .before .before .before .before .before .before .put-hex2 .ensures)
-    (run-more (now (a .out)) (hex2 (a .w / 256)) (hex2 (a .w % 256)) (a .at) (a .at + 2) refl)
+    ∙ rw (c .before .before .before .before .before .before .put-hex2 .ensures) (run-more _ _ _ _ _ refl)
 
 pub put-hex4-spec : {M : Type 1} → statement M
 put-hex4-spec =

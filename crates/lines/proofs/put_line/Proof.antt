@@ -1,14 +1,10 @@
-use Prim.Native.Nat.{_+_}
 use mathlib.Core.Path.{refl, ap, _∙_}
-use mathlib.Core.List.{[], _∷_, _++_}
 use native.Mathlib.Omega.{arith}
 use lib.ListN.{length}
-use denote.Ref.{now}
 use borrow.Author.Needs.{needs}
-use Rattle.model.specs.Rows.{takenOf}
-use Prim.Native.Nat.{min}
+use denote.Ref.{now}
 use Rattle.lines.proofs.Runs.{run-line}
-use Rattle.model.specs.Lines.{five, two, hex2, hex4, blank, lineWith}
+use Rattle.model.specs.Lines.{lineWith}
 use Rattle.lists.specs.Over.{length-over}
 use Rattle.lines.proofs.put_line.Statement.{statement}
 use Rattle.lines.proofs.put_line.Tie as tie
@@ -46,10 +42,8 @@ returns c =
     let u = c .before .before .before .before .before .before .before in
     let v = u .before .before .before .before in
     let a = v .before .before .before .before .args in
-    let counts = five (a .n) ++ blank ∷ two (min (a .kind) 99) ++ blank ∷ two (a .number) ++ blank ∷ [] in
-    let states = hex4 (a .word) ++ blank ∷ hex2 (a .gp) ++ blank ∷ hex2 (a .internal) ++ blank ∷ [] in
     rw (c .before .before .put-two .ensures, u .put-states .ensures, v .put-counts .ensures, v .before .capped .ensures, c .before .before .before .count .ensures)
-    (run-line (now (a .out)) counts states (two (takenOf (a .rows))) (a .at) (a .at + 12) (a .at + 23) (a .at + 25) 10 refl (omega arith) (omega arith))
+    (run-line (now (a .out)) _ _ _ _ _ _ _ _ refl (omega arith) (omega arith))
 
 same-length : tie.Need-same-length
 same-length c = ap length (returns c) ∙ length-over _ _ _

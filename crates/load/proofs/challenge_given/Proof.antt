@@ -6,6 +6,8 @@ use native.Mathlib.Numerals.{add-one}
 use lib.ListN.{length, take, drop, set, getD, length-set, length-take, length-drop, length-append}
 use denote.Ref.{now}
 use borrow.Author.Needs.{needs}
+use Rattle.model.specs.Rules.{challenged}
+use borrow.Author.Tests.{eq-eqb, ne-eqb}
 use Rattle.load.proofs.challenge_given.Statement.{statement}
 use Rattle.load.proofs.challenge_given.Tie as tie
 use Rattle.load.proofs.challenge_given.Reads as reads
@@ -14,21 +16,40 @@ use Rattle.feed.proofs.with_taken.Reads as with-taken-reads
 use Rattle.load.proofs.failed_by.Reads as failed-by-reads
 use Rattle.rows.proofs.is_due.Reads as is-due-reads
 
+failed-by-requires : tie.Need-failed-by-requires
+failed-by-requires c κs = search needs
+
+returns : tie.Need-returns
+unfolding challenged
+returns c = λ a. rw (c .failed-by .ensures, ne-eqb _ _ (c .before .if1 .taken))
+
 is-due-requires : tie.Need-is-due-requires
 is-due-requires c κs = search needs
 
 with-taken-requires : tie.Need-with-taken-requires
 with-taken-requires c κs = search needs
 
-returns : tie.Need-returns
-returns c = ?
-
-failed-by-requires : tie.Need-failed-by-requires
-failed-by-requires c κs = search needs
-
 returns-2 : tie.Need-returns-2
-returns-2 c = ?
+unfolding challenged
+returns-2 c =
+    λ a. rw (c .with-taken .ensures, eq-eqb _ _ (c .before .before .before .if1 .left), ← c .before .before .is-due .ensures, c .before .if2 .taken)
+
+failed-by-requires-2 : tie.Need-failed-by-requires-2
+failed-by-requires-2 c κs = search needs
+
+returns-3 : tie.Need-returns-3
+unfolding challenged
+returns-3 c =
+    λ a. rw (c .failed-by2 .ensures, eq-eqb _ _ (c .before .before .before .if1 .left), ← c .before .before .is-due .ensures, c .before .if2 .left)
 
 pub challenge-given-spec : {M : Type 1} → statement M
 challenge-given-spec =
-    tie.close (tie.spec is-due-requires with-taken-requires returns failed-by-requires returns-2)
+    tie.close
+    (tie.spec
+    failed-by-requires
+    returns
+    is-due-requires
+    with-taken-requires
+    returns-2
+    failed-by-requires-2
+    returns-3)

@@ -6,6 +6,8 @@ use native.Mathlib.Numerals.{add-one}
 use lib.ListN.{length, take, drop, set, getD, length-set, length-take, length-drop, length-append}
 use denote.Ref.{now}
 use borrow.Author.Needs.{needs}
+use Rattle.model.specs.Command.{theEnd, ready}
+use borrow.Author.Tests.{eq-eqb, ne-eqb, lt-leb, le-leb}
 use Rattle.load.proofs.ended_by.Statement.{statement}
 use Rattle.load.proofs.ended_by.Tie as tie
 use Rattle.load.proofs.ended_by.Reads as reads
@@ -14,7 +16,8 @@ use Rattle.load.proofs.failed_by.Reads as failed-by-reads
 use Rattle.rows.proofs.mandatory_missing.Reads as mandatory-missing-reads
 
 returns : tie.Need-returns
-returns c = ?
+unfolding theEnd
+returns c = λ a. rw (lt-leb _ _ (c .if1 .taken))
 
 mandatory-missing-requires : tie.Need-mandatory-missing-requires
 mandatory-missing-requires c κs = search needs
@@ -23,7 +26,9 @@ failed-by-requires : tie.Need-failed-by-requires
 failed-by-requires c κs = search needs
 
 returns-2 : tie.Need-returns-2
-returns-2 c = ?
+unfolding theEnd ready
+returns-2 c =
+    λ a. rw (c .failed-by .ensures, le-leb _ _ (c .before .before .before .if1 .left), ← c .before .before .mandatory-missing .ensures, c .before .if2 .taken)
 
 enum-told : tie.Need-enum-told
 enum-told c = search needs
@@ -41,13 +46,19 @@ failed-by-requires-3 : tie.Need-failed-by-requires-3
 failed-by-requires-3 c κs = search needs
 
 returns-3 : tie.Need-returns-3
-returns-3 c = ?
+unfolding theEnd ready
+returns-3 c =
+    λ a. rw (le-leb _ _ (c .before .before .before .before .if1 .left), ← c .before .before .before .mandatory-missing .ensures, c .before .before .if2 .left, c .enum-told .given .1)
 
 returns-4 : tie.Need-returns-4
-returns-4 c = ?
+unfolding theEnd ready
+returns-4 c =
+    λ a. rw (c .failed-by2 .ensures, le-leb _ _ (c .before .before .before .before .before .if1 .left), ← c .before .before .before .before .mandatory-missing .ensures, c .before .before .before .if2 .left, c .before .enum-told2 .given .1)
 
 returns-5 : tie.Need-returns-5
-returns-5 c = ?
+unfolding theEnd ready
+returns-5 c =
+    λ a. rw (c .failed-by3 .ensures, le-leb _ _ (c .before .before .before .before .before .if1 .left), ← c .before .before .before .before .mandatory-missing .ensures, c .before .before .before .if2 .left, c .before .enum-told3 .given .1)
 
 pub ended-by-spec : {M : Type 1} → statement M
 ended-by-spec =

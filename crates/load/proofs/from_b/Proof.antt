@@ -6,6 +6,10 @@ use native.Mathlib.Numerals.{add-one}
 use lib.ListN.{length, take, drop, set, getD, length-set, length-take, length-drop, length-append}
 use denote.Ref.{now}
 use borrow.Author.Needs.{needs}
+use Rattle.model.specs.Rules.{query}
+use Rattle.load.specs.Steps.{fromC}
+use Rattle.feed.specs.Steps.{stateOf}
+use Rattle.load.proofs.Chains.{b-other, b-query, query-ends, query-stops}
 use Rattle.load.proofs.from_b.Statement.{statement}
 use Rattle.load.proofs.from_b.Tie as tie
 use Rattle.load.proofs.from_b.Reads as reads
@@ -21,7 +25,14 @@ queried-requires : tie.Need-queried-requires
 queried-requires c κs = search needs
 
 returns : tie.Need-returns
-returns c = ?
+returns c =
+    let s = c .before .before .before .before .before in
+    let b = drop (s .args .at) (now (s .args .d)) in
+    let x = stateOf (s .args .l) (now (s .args .area)) in
+    let n = length (now (s .args .d)) in
+    query-stops (c .queried .result .course) (now (s .args .d)) (stateOf (c .queried .result .load) (now (s .args .area))) (query n (s .args .p1) b (s .args .h) x) (λ a. fromC (s .args .capacity) (s .args .h) b)
+    (c .queried .ensures b (now (s .args .area)) (length-drop (s .args .at) (now (s .args .d)))) (query-ends n (s .args .p1) b (s .args .h) x)
+    ∙ sym (b-query (s .args .capacity) n (s .args .p1) (s .args .h) b x (sym (c .before .before .is-query .ensures) ∙ c .before .if1 .taken))
 
 from-c-requires : tie.Need-from-c-requires
 from-c-requires c κs = search needs
@@ -30,7 +41,10 @@ same-length : tie.Need-same-length
 same-length c = search needs
 
 returns-2 : tie.Need-returns-2
-returns-2 c = ?
+returns-2 c =
+    let s = c .before .before .before .before .before .before .before .before in
+    c .before .before .from-c .ensures
+    ∙ sym (b-other (s .args .capacity) (length (now (s .args .d))) (s .args .p1) (s .args .h) (drop (s .args .at) (now (s .args .d))) (stateOf (s .args .l) (now (s .args .area))) (sym (c .before .before .before .before .before .is-query .ensures) ∙ c .before .before .before .before .if1 .left))
 
 pub from-b-spec : {M : Type 1} → statement M
 from-b-spec =

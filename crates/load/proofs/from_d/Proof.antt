@@ -6,6 +6,9 @@ use native.Mathlib.Numerals.{add-one}
 use lib.ListN.{length, take, drop, set, getD, length-set, length-take, length-drop, length-append}
 use denote.Ref.{now}
 use borrow.Author.Needs.{needs}
+use Rattle.soundness.proofs.Walks.{dueRow-passes}
+use Rattle.feed.specs.Steps.{stateOf}
+use Rattle.load.proofs.Chains.{d-passes, d-refuses}
 use Rattle.load.proofs.from_d.Statement.{statement}
 use Rattle.load.proofs.from_d.Tie as tie
 use Rattle.load.proofs.from_d.Reads as reads
@@ -21,7 +24,11 @@ enum-known-verdict : tie.Need-enum-known-verdict
 enum-known-verdict c = search needs
 
 from-e-requires : tie.Need-from-e-requires
-from-e-requires c κs = ?
+from-e-requires c κs =
+    let s = c .before .before .before .before .before .before .before in
+    let e = sym (c .before .before .before .before .due-row .ensures) ∙ c .before .before .verdict .given .1 in
+    let p = dueRow-passes (s .args .l .rows) (s .args .l .last) (s .args .h .tag) _ e in
+    (s .pre .0, s .pre .1, record { least = p .0; most = p .1; personal = s .pre .2; rowDue = p .2 }, s .pre .3)
 
 enum-known-verdict-2 : tie.Need-enum-known-verdict-2
 enum-known-verdict-2 c = search needs
@@ -33,10 +40,16 @@ same-length : tie.Need-same-length
 same-length c = search needs
 
 returns : tie.Need-returns
-returns c = ?
+returns c =
+    let s = c .before .before .before .before .before .before .before .before .before .before in
+    let e = sym (c .before .before .before .before .before .before .before .due-row .ensures) ∙ c .before .before .before .before .before .verdict .given .1 in
+    c .before .before .from-e .ensures ∙ sym (d-passes (s .args .capacity) (s .args .h) (drop (s .args .at) (now (s .args .d))) (stateOf (s .args .l) (now (s .args .area))) _ e)
 
 returns-2 : tie.Need-returns-2
-returns-2 c = ?
+returns-2 c =
+    let s = c .before .before .before .before .before .before .before in
+    let e = sym (c .before .before .before .before .due-row .ensures) ∙ c .before .before .verdict2 .given .1 in
+    rw (c .failed-by .ensures) (sym (d-refuses (s .args .capacity) (s .args .h) (drop (s .args .at) (now (s .args .d))) (stateOf (s .args .l) (now (s .args .area))) _ e))
 
 pub from-d-spec : {M : Type 1} → statement M
 from-d-spec =

@@ -6,6 +6,7 @@ use native.Mathlib.Numerals.{add-one}
 use lib.ListN.{length, take, drop, set, getD, length-set, length-take, length-drop, length-append}
 use denote.Ref.{now}
 use borrow.Author.Needs.{needs}
+use Rattle.lists.specs.Choice.{cases}
 use Rattle.load.proofs.is_startup.Statement.{statement}
 use Rattle.load.proofs.is_startup.Tie as tie
 use Rattle.load.proofs.is_startup.Reads as reads
@@ -15,25 +16,25 @@ shared-slice-read-if1 : tie.Need-shared-slice-read-if1
 shared-slice-read-if1 c = search needs
 
 returns : tie.Need-returns
-returns c = ?
+returns c = search cases
 
 shared-slice-read-if2 : tie.Need-shared-slice-read-if2
 shared-slice-read-if2 c = search needs
 
 returns-2 : tie.Need-returns-2
-returns-2 c = ?
+returns-2 c = search cases
 
 shared-slice-read-if3 : tie.Need-shared-slice-read-if3
 shared-slice-read-if3 c = search needs
 
 returns-3 : tie.Need-returns-3
-returns-3 c = ?
+returns-3 c = search cases
 
 shared-slice-read-result : tie.Need-shared-slice-read-result
 shared-slice-read-result c = search needs
 
 returns-4 : tie.Need-returns-4
-returns-4 c = ?
+returns-4 c = search cases
 
 pub is-startup-spec : {M : Type 1} → statement M
 is-startup-spec =

@@ -6,6 +6,9 @@ use native.Mathlib.Numerals.{add-one}
 use lib.ListN.{length, take, drop, set, getD, length-set, length-take, length-drop, length-append}
 use denote.Ref.{now}
 use borrow.Author.Needs.{needs}
+use Rattle.model.specs.Rules.{kept}
+use Rattle.lists.specs.Bytes.{padded-full}
+use borrow.Author.Tests.{eq-eqb, ne-eqb}
 use Rattle.load.proofs.kept_as.Statement.{statement}
 use Rattle.load.proofs.kept_as.Tie as tie
 use Rattle.load.proofs.kept_as.Reads as reads
@@ -17,22 +20,28 @@ use Rattle.slices.proofs.padded64.Reads as padded64-reads
 use Rattle.slices.proofs.padded8.Reads as padded8-reads
 
 padded8-requires : tie.Need-padded8-requires
-padded8-requires c κs = ?
+padded8-requires c κs = omega (arith, c .before .before .pre .serial (c .if1 .taken))
 
 returns : tie.Need-returns
-returns c = ?
+unfolding kept
+returns c =
+    λ a. rw (c .padded8 .ensures, padded-full 8 _ (c .before .before .before .pre .serial (c .before .if1 .taken)), eq-eqb _ _ (c .before .if1 .taken))
 
 startup-kept-requires : tie.Need-startup-kept-requires
-startup-kept-requires c κs = ?
+startup-kept-requires c κs = c .before .before .before .pre .startup (c .if2 .taken)
 
 returns-2 : tie.Need-returns-2
-returns-2 c = ?
+unfolding kept
+returns-2 c =
+    λ a. rw (c .startup-kept .ensures a, ne-eqb _ _ (c .before .before .if1 .left), eq-eqb _ _ (c .before .if2 .taken))
 
 counter-in-requires : tie.Need-counter-in-requires
-counter-in-requires c κs = ?
+counter-in-requires c κs = c .before .before .before .before .pre .counter (c .if3 .taken)
 
 returns-3 : tie.Need-returns-3
-returns-3 c = ?
+unfolding kept
+returns-3 c =
+    λ a. rw (c .counter-in .ensures, ne-eqb _ _ (c .before .before .before .if1 .left), ne-eqb _ _ (c .before .before .if2 .left), eq-eqb _ _ (c .before .if3 .taken))
 
 secret-place-requires : tie.Need-secret-place-requires
 secret-place-requires c κs = search needs
@@ -47,7 +56,9 @@ element-set-from-secret : tie.Need-element-set-from-secret
 element-set-from-secret c = search needs
 
 returns-4 : tie.Need-returns-4
-returns-4 c = ?
+unfolding kept
+returns-4 c =
+    λ a. rw (c .padded64 .ensures, c .before .secret-place .ensures .0, ne-eqb _ _ (c .before .before .before .before .if1 .left), ne-eqb _ _ (c .before .before .before .if2 .left), ne-eqb _ _ (c .before .before .if3 .left))
 
 pub kept-as-spec : {M : Type 1} → statement M
 kept-as-spec =

@@ -6,6 +6,8 @@ use native.Mathlib.Numerals.{add-one}
 use lib.ListN.{length, take, drop, set, getD, length-set, length-take, length-drop, length-append}
 use denote.Ref.{now}
 use borrow.Author.Needs.{needs}
+use Rattle.model.specs.Rules.{roomOf}
+use borrow.Author.Tests.{eq-eqb, ne-eqb}
 use Rattle.load.proofs.room_of.Statement.{statement}
 use Rattle.load.proofs.room_of.Tie as tie
 use Rattle.load.proofs.room_of.Reads as reads
@@ -20,19 +22,24 @@ enum-told : tie.Need-enum-told
 enum-told c = search needs
 
 returns : tie.Need-returns
-returns c = ?
+unfolding roomOf
+returns c =
+    rw (eq-eqb _ _ (c .before .before .before .if1 .taken), ← c .before .before .spot-at .ensures, c .enum-told .given .1)
 
 enum-known-spot : tie.Need-enum-known-spot
 enum-known-spot c = search needs
 
 returns-2 : tie.Need-returns-2
-returns-2 c = ?
+unfolding roomOf
+returns-2 c =
+    rw (eq-eqb _ _ (c .before .before .before .before .if1 .taken), ← c .before .before .before .spot-at .ensures, c .before .spot .given .1)
 
 row-at-requires : tie.Need-row-at-requires
 row-at-requires c κs = search needs
 
 returns-3 : tie.Need-returns-3
-returns-3 c = ?
+unfolding roomOf
+returns-3 c = rw (ne-eqb _ _ (c .before .if1 .left), c .row-at .ensures)
 
 pub room-of-spec : {M : Type 1} → statement M
 room-of-spec =

@@ -6,6 +6,13 @@ use native.Mathlib.Numerals.{add-one}
 use lib.ListN.{length, take, drop, set, getD, length-set, length-take, length-drop, length-append}
 use denote.Ref.{now}
 use borrow.Author.Needs.{needs}
+use Rattle.feed.specs.Steps.{coursed}
+use Rattle.feed.specs.declared.Course.{Course}
+use Rattle.model.specs.Rules.{grouping, went, asked, failed}
+use Rattle.model.specs.Command.{walk}
+use Rattle.feed.specs.Steps.{stateOf}
+use Rattle.load.specs.Steps.{Walking}
+use Rattle.load.proofs.Walks.{walk-ends, walk-out, walk-turn, walk-goes}
 use Rattle.load.proofs.walked.Statement.{statement}
 use Rattle.load.proofs.walked.Tie as tie
 use Rattle.load.proofs.walked.Reads as reads
@@ -13,25 +20,32 @@ use Rattle.load.proofs.walked.Lts as lts
 use Rattle.load.proofs.grouping_at.Reads as grouping-at-reads
 
 abbrev Inv-loop : tie.InvT-loop
-Inv-loop area₀ capacity p1 d at load₀ i₀ turns₀ area load i turns = ?
+Inv-loop area₀ capacity p1 d at load₀ i₀ turns₀ area load i turns =
+    Walking i d (stateOf load area) × (length area ≡ length area₀)
+    × (walk (length d - at) capacity (length d) p1 (drop at d) (stateOf load₀ area₀) ≡ walk turns capacity (length d) p1 (drop i d) (stateOf load area))
 
 abbrev μ-loop : tie.MeasureT-loop
-μ-loop area₀ capacity p1 d at load₀ i₀ turns₀ area load i turns = ?
+μ-loop area₀ capacity p1 d at load₀ i₀ turns₀ area load i turns = turns
 
 sub-turns : tie.Need-sub-turns Inv-loop μ-loop
 sub-turns c = search needs
 
 loop-holds : tie.Need-loop-holds Inv-loop μ-loop
-loop-holds c = search needs
+loop-holds c = (c .before .before .pre .1, refl, refl)
 
 same-length : tie.Need-same-length Inv-loop μ-loop
 same-length c = search needs
 
 returns : tie.Need-returns Inv-loop μ-loop
-returns c = search needs
+returns c =
+    let s = c .before .before .before .before .before .args in
+    let l = c .before .before .loop in
+    sym (l .inv .2 ∙ walk-ends (s .capacity) (length (now (s .d))) (s .p1) (stateOf (l .load) (l .area)) (l .turns) (l .i) (now (s .d)) (c .if1 .taken))
 
 grouping-at-requires : tie.Need-grouping-at-requires Inv-loop μ-loop
-grouping-at-requires c κs = search needs
+grouping-at-requires c κs =
+    let l = c .before .before .before .loop in
+    (l .inv .0 .kept, l .inv .0 .shut (rw length-drop (omega arith)), omega arith)
 
 enum-known-course : tie.Need-enum-known-course Inv-loop μ-loop
 enum-known-course c = search needs
@@ -43,7 +57,14 @@ loop-less : tie.Need-loop-less Inv-loop μ-loop
 loop-less c = search needs
 
 loop-again : tie.Need-loop-again Inv-loop μ-loop
-loop-again c = search needs
+loop-again c =
+    let g = c .before .before .before .before .before .before in
+    let s = g .before .before .before .before .before .before .before .args in
+    let l = g .before .before .before .before .loop in
+    let t = stateOf (g .grouping-at .result .load) (g .grouping-at .last .1 .0) in
+    let e = sym (ap (λ (x : Course). coursed x (now (s .d)) t) (c .before .course .given .1)) ∙ g .grouping-at .ensures in
+    let w = walk-goes (s .capacity) (length (now (s .d))) (s .p1) (stateOf (l .load) (l .area)) (l .turns) (l .i) (c .before .course .given .0 .0) (now (s .d)) t (omega arith) (omega arith) (l .inv .0) e in
+    (w .0, g .grouping-at .kept .1 .0 ∙ l .inv .1, l .inv .2 ∙ w .1)
 
 enum-known-course-2 : tie.Need-enum-known-course-2 Inv-loop μ-loop
 enum-known-course-2 c = search needs
@@ -52,7 +73,13 @@ same-length-2 : tie.Need-same-length-2 Inv-loop μ-loop
 same-length-2 c = search needs
 
 returns-2 : tie.Need-returns-2 Inv-loop μ-loop
-returns-2 c = search needs
+returns-2 c =
+    let g = c .before .before .before .before .before .before in
+    let s = g .before .before .before .before .before .before .before .args in
+    let l = g .before .before .before .before .loop in
+    let t = stateOf (g .grouping-at .result .load) (g .grouping-at .last .1 .0) in
+    let e = sym (ap (λ (x : Course). coursed x (now (s .d)) t) (c .before .course2 .given .1)) ∙ g .grouping-at .ensures in
+    sym (l .inv .2 ∙ walk-turn (s .capacity) (length (now (s .d))) (s .p1) (stateOf (l .load) (l .area)) (l .turns) (l .i) (now (s .d)) (omega arith) (omega arith) ∙ rw (← e))
 
 enum-known-course-3 : tie.Need-enum-known-course-3 Inv-loop μ-loop
 enum-known-course-3 c = search needs
@@ -61,13 +88,22 @@ same-length-3 : tie.Need-same-length-3 Inv-loop μ-loop
 same-length-3 c = search needs
 
 returns-3 : tie.Need-returns-3 Inv-loop μ-loop
-returns-3 c = search needs
+returns-3 c =
+    let g = c .before .before .before .before .before .before in
+    let s = g .before .before .before .before .before .before .before .args in
+    let l = g .before .before .before .before .loop in
+    let t = stateOf (g .grouping-at .result .load) (g .grouping-at .last .1 .0) in
+    let e = sym (ap (λ (x : Course). coursed x (now (s .d)) t) (c .before .course3 .given .1)) ∙ g .grouping-at .ensures in
+    sym (l .inv .2 ∙ walk-turn (s .capacity) (length (now (s .d))) (s .p1) (stateOf (l .load) (l .area)) (l .turns) (l .i) (now (s .d)) (omega arith) (omega arith) ∙ rw (← e))
 
 same-length-4 : tie.Need-same-length-4 Inv-loop μ-loop
 same-length-4 c = search needs
 
 returns-4 : tie.Need-returns-4 Inv-loop μ-loop
-returns-4 c = search needs
+returns-4 c =
+    let s = c .before .before .before .before .args in
+    let l = c .before .loop in
+    sym (l .inv .2 ∙ walk-out (s .capacity) (length (now (s .d))) (s .p1) (stateOf (l .load) (l .area)) (l .turns) (drop (l .i) (now (s .d))) (omega arith))
 
 pub walked-spec : {M : Type 1} → statement M
 walked-spec =

@@ -6,6 +6,7 @@ use native.Mathlib.Numerals.{add-one}
 use lib.ListN.{length, take, drop, set, getD, length-set, length-take, length-drop, length-append}
 use denote.Ref.{now}
 use borrow.Author.Needs.{needs}
+use Rattle.load.proofs.Facts.{value-length, whole-passes, whole-refused}
 use Rattle.load.proofs.whole_at.Statement.{statement}
 use Rattle.load.proofs.whole_at.Tie as tie
 use Rattle.load.proofs.whole_at.Reads as reads
@@ -27,7 +28,7 @@ part-kept-as-end : tie.Need-part-kept-as-end
 part-kept-as-end c = search needs
 
 kept-as-requires : tie.Need-kept-as-requires
-kept-as-requires c κs = ?
+kept-as-requires c κs = rw (value-length _ _ _ (c .before .before .pre .2)) (c .before .before .pre .0)
 
 enum-told : tie.Need-enum-told
 enum-told c = search needs
@@ -42,10 +43,16 @@ failed-by-requires : tie.Need-failed-by-requires
 failed-by-requires c κs = search needs
 
 returns : tie.Need-returns
-returns c = ?
+returns c =
+    λ a. let k = c .before .before .before .before in
+    let s = k .before .before .before .args in
+    rw (c .with-taken .ensures) (whole-passes (s .capacity) (s .row) (s .at) (s .h) (now (s .d)) a (s .l) (k .kept-as .result) (k .kept-as .ensures a) _ (c .before .enum-told .given .1))
 
 returns-2 : tie.Need-returns-2
-returns-2 c = ?
+returns-2 c =
+    λ a. let k = c .before .before .before .before .before in
+    let s = k .before .before .before .args in
+    rw (c .failed-by .ensures) (whole-refused (s .capacity) (s .row) (s .at) (s .h) (now (s .d)) a (s .l) (k .kept-as .result) (k .kept-as .ensures a) _ (c .before .before .verdict .given .1))
 
 pub whole-at-spec : {M : Type 1} → statement M
 whole-at-spec =

@@ -7,59 +7,66 @@ use lib.ListN.{length, take, drop, set, getD, length-set, length-take, length-dr
 use denote.Ref.{now}
 use borrow.Author.Needs.{needs}
 use Rattle.order.proofs.Pulls.{found-so, grouping-inside}
-use Rattle.order.specs.Reads.{nextOf}
 use Rattle.model.specs.declared.Pulled.the-variants.{Ended, Broken, Grouping}
-use Rattle.model.specs.declared.Pulled.{Pulled}
 use Rattle.order.proofs.found_at.Statement.{statement}
 use Rattle.order.proofs.found_at.Tie as tie
 use Rattle.order.proofs.found_at.Reads as reads
 use Rattle.order.proofs.found_at.Lts as lts
+use Rattle.order.proofs.nothing_found.Reads as nothing-found-reads
 use Rattle.order.proofs.pull_at.Reads as pull-at-reads
 
 pull-at-requires : tie.Need-pull-at-requires
 pull-at-requires c κs = search needs
 
+enum-told : tie.Need-enum-told
+enum-told c = search needs
+
+nothing-found-requires : tie.Need-nothing-found-requires
+nothing-found-requires c κs = search needs
+
+enum-told-2 : tie.Need-enum-told-2
+enum-told-2 c = search needs
+
+nothing-found-requires-2 : tie.Need-nothing-found-requires-2
+nothing-found-requires-2 c κs = search needs
+
 enum-known-pulled : tie.Need-enum-known-pulled
 enum-known-pulled c = search needs
 
-add-t7 : tie.Need-add-t7
-add-t7 c =
+add-t8 : tie.Need-add-t8
+add-t8 c =
     let a = c .before .before .before .before .before .args in
     let p = c .before .pulled .given in
     let w = grouping-inside (now (a .order)) (a .at) (p .0 .0) (p .0 .1 .0) (p .0 .1 .1 .0) (sym (p .1) ∙ c .before .before .before .pull-at .ensures) in
     omega arith
 
-enum-told : tie.Need-enum-told
-enum-told c = search needs
-
-enum-told-2 : tie.Need-enum-told-2
-enum-told-2 c = search needs
-
 returns : tie.Need-returns
 returns c =
     let a = c .before .before .before .before .before .args in
-    let p = c .before .pulled .given in
-    found-so (now (a .order)) (a .at) _ (Grouping (p .0 .0) (p .0 .1 .0) (p .0 .1 .1 .0)) (sym (p .1) ∙ c .before .before .before .pull-at .ensures) refl
+    c .nothing-found .ensures ∙ found-so (now (a .order)) (a .at) Ended (sym (c .before .enum-told .given .1) ∙ c .before .before .before .pull-at .ensures)
 
 returns-2 : tie.Need-returns-2
 returns-2 c =
-    let a = c .before .before .before .before .args in
-    found-so (now (a .order)) (a .at) _ (c .before .before .pull-at .result) (c .before .before .pull-at .ensures) (rw (c .enum-told .given .1))
+    let a = c .before .before .before .before .before .args in
+    c .nothing-found2 .ensures ∙ found-so (now (a .order)) (a .at) Broken (sym (c .before .enum-told2 .given .1) ∙ c .before .before .before .pull-at .ensures)
 
 returns-3 : tie.Need-returns-3
 returns-3 c =
-    let a = c .before .before .before .before .args in
-    found-so (now (a .order)) (a .at) _ (c .before .before .pull-at .result) (c .before .before .pull-at .ensures) (rw (c .enum-told2 .given .1))
+    let a = c .before .before .before .before .before .args in
+    let p = c .before .pulled .given in
+    found-so (now (a .order)) (a .at) (Grouping (p .0 .0) (p .0 .1 .0) (p .0 .1 .1 .0)) (sym (p .1) ∙ c .before .before .before .pull-at .ensures)
 
 pub found-at-spec : {M : Type 1} → statement M
 found-at-spec =
     tie.close
     (tie.spec
     pull-at-requires
-    enum-known-pulled
-    add-t7
     enum-told
+    nothing-found-requires
     enum-told-2
+    nothing-found-requires-2
+    enum-known-pulled
+    add-t8
     returns
     returns-2
     returns-3)

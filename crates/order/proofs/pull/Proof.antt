@@ -138,8 +138,8 @@ module _ {M : Type 1} (𝓤 : URA M) (H : Heap 𝓤) (A : Atoms 𝓤) (W : Given
   said : (r : Found) → ent 𝓤 (ensured 𝓤 H A step.ended (step.clauses 𝓤 H A mem run) (κ, tt) (d .order, (d .at, tt)) tt r) (fact 𝓤 (r ≡ found))
   said r = exE 𝓤 _ (λ ws. snd∗ 𝓤 (sem 𝓤 H A (lasts step.ended (κ, tt) (d .order, (d .at, tt)) ws)) (fact 𝓤 (r ≡ found)))
 
-  said-value : (r : Found) (s : RefT (List ℕ)) → ent 𝓤 (ensured 𝓤 H A value.ended (value.clauses 𝓤 H A mem run) (κ, tt) (d .order, (r, tt)) tt s) (fact 𝓤 (now s ≡ valueOf (now (d .order)) (r .pulled)))
-  said-value r s = exE 𝓤 _ (λ ws. snd∗ 𝓤 (sem 𝓤 H A (lasts value.ended (κ, tt) (d .order, (r, tt)) ws)) (fact 𝓤 (now s ≡ valueOf (now (d .order)) (r .pulled))))
+  said-value : (r : Found) (s : RefT (List ℕ)) → ent 𝓤 (ensured 𝓤 H A value.ended (value.clauses 𝓤 H A mem run) (κ, tt) (d .order, (r, tt)) tt s) (fact 𝓤 (now s ≡ valueOf (now (d .order)) r))
+  said-value r s = exE 𝓤 _ (λ ws. snd∗ 𝓤 (sem 𝓤 H A (lasts value.ended (κ, tt) (d .order, (r, tt)) ws)) (fact 𝓤 (now s ≡ valueOf (now (d .order)) r)))
 
   -- what the second callee is passed: the slice again, and what was found
   module _ (r : Found) (is : Is S.the-row r (S′.lowered r ∷ [])) where
@@ -160,7 +160,7 @@ module _ {M : Type 1} (𝓤 : URA M) (H : Heap 𝓤) (A : Atoms 𝓤) (W : Given
         move ! (1 ∷ []) $ drop ! $ nothing ! $ owned ! S.the-row (Is S.the-row) (LL.makes S.the-type S′.the-plain 𝓤 H A) r _ is $ fjoin ! $ move ! (1 ∷ 0 ∷ []) $ fjoin ! $
         move ! (2 ∷ 0 ∷ []) $ use2 W (raw (ValueOf 𝓤 H A mem run .pre to-value)) asked-value $ frame ! $ done !)
 
-    exits : (s : RefT (List ℕ)) → r .next < 2 ^ 64 → r ≡ found → now s ≡ valueOf (now (d .order)) (found .pulled)
+    exits : (s : RefT (List ℕ)) → r .next < 2 ^ 64 → r ≡ found → now s ≡ valueOf (now (d .order)) found
         → ent 𝓤 (⋆ 𝓤 H A (‵ (ShrSlice (named 0) κ u8 .own s (sliceVal (s .ptr) (length (s .now)) ∷ [])) ∷ (‵ (flft κ q) ⊛ ‵ ftrue) ∷ ‵ Own ∷ [])) (Post (P′.lowered (made s r)))
     exits s ok e e′ =
         qed W (‵ (ShrSlice (named 0) κ u8 .own s (sliceVal (s .ptr) (length (s .now)) ∷ [])) ∷ (‵ (flft κ q) ⊛ ‵ ftrue) ∷ ‵ Own ∷ []) ∵
@@ -193,7 +193,7 @@ module _ {M : Type 1} (𝓤 : URA M) (H : Heap 𝓤) (A : Atoms 𝓤) (W : Given
         use2 W (raw (ValueOf 𝓤 H A mem run .pre (to-value r is)) ⊛ ‵ Own) (apart-value r is) $ split ! $
         calls-at ! fm (ValueOf 𝓤 H A mem run) known-value (to-value r is) (and-then ! (load ! (from ! (stop !)) (look ! 6 refl)) (and-then ! (load ! (from ! (stop !)) (look ! 16 refl)) (no-more !))) (λ u′.
         use1 W (later (some (λ (s : RefT (List ℕ)). ((‵ (flft κ q) ⊛ ‵ ftrue) ⊛ ‵ (ShrSlice (named 0) κ u8 .own s (u′ ∷ []))) ⊛ raw (ensured 𝓤 H A value.ended (value.clauses 𝓤 H A mem run) (κ, tt) (d .order, (r, tt)) tt s)))) (id⊢ 𝓤 _) $ await ! tt $ pick ! (λ s.
-        split ! $ move ! (1 ∷ []) $ use1 W (raw (fact 𝓤 (now s ≡ valueOf (now (d .order)) (r .pulled)))) (said-value r s) $ heard ! (now s ≡ valueOf (now (d .order)) (r .pulled)) (λ e′. split ! $ move ! (1 ∷ []) $
+        split ! $ move ! (1 ∷ []) $ use1 W (raw (fact 𝓤 (now s ≡ valueOf (now (d .order)) r))) (said-value r s) $ heard ! (now s ≡ valueOf (now (d .order)) r) (λ e′. split ! $ move ! (1 ∷ []) $
         -- [what the part owns; the token; what the struct owns; _6; …; _5; …; _4; …; _3; …; _2; …; _1; …; room for _0; …]
         peeks ! (ShrSlice (named 0) κ u8) (Is (ShrSlice (named 0) κ u8)) (shows 𝓤 H A (ShrSlice (named 0) κ u8)) s (u′ ∷ []) (λ is′.
         let same : u′ ≡ sliceVal (s .ptr) (length (s .now)) = ap only (shr-slice-tells (named 0) κ u8 s (u′ ∷ []) is′) in
@@ -203,12 +203,12 @@ module _ {M : Type 1} (𝓤 : URA M) (H : Heap 𝓤) (A : Atoms 𝓤) (W : Given
         rewrite ! 0 (λ (w : Val). ‵ (ShrSlice (named 0) κ u8 .own s (w ∷ []))) same refl $
         let wr = LL.lawful S.the-type S′.the-laws 𝓤 H A W .typed r _ is .0 .1 in
         assigns ! (of-opd ! (load ! (from ! (fld ! refl (stop !))) (look-in ! 19 (sub ! 0 refl (whole !))))) (from ! (stop !)) (init ! 5 refl (tt, wt .1 .0)) $
-        assigns ! (agg ! (and-then ! (load ! (from ! (stop !)) (look ! 5 refl)) (and-then ! (load ! (from ! (fld ! refl (stop !))) (look-in ! 17 (sub ! 1 refl (whole !)))) (no-more !)))) (from ! (stop !)) (init ! 13 refl (tt, (wt .1 .0, (wr .1 .0, tt)))) $
-        assigns ! (of-opd ! (load ! (from ! (stop !)) (look ! 13 refl))) (from ! (stop !)) (init ! 3 refl (tt, (wt .1 .0, (wr .1 .0, tt)))) $
-        assigns ! (agg ! (and-then ! (load ! (from ! (stop !)) (look ! 3 refl)) (and-then ! (load ! (from ! (stop !)) (look ! 15 refl)) (and-then ! (load ! (from ! (stop !)) (look ! 17 refl)) (no-more !))))) (from ! (stop !)) (init ! 21 refl (tt, ((wt .1 .0, (wr .1 .0, tt)), (shr-slice-lawful 𝓤 H A W erased κ u8 .typed s _ is″ .0 .1, (wr, tt))))) $
-        returns ! (look ! 21 refl) $ forget ! 3 refl $ forget ! 5 refl $ forget ! 7 refl $ forget ! 9 refl $ forget ! 11 refl $ forget ! 13 refl $ forget ! 15 refl $ forget ! 17 refl $ forget ! 19 refl $ forget ! 21 refl $ 
+        assigns ! (agg ! (and-then ! (load ! (from ! (stop !)) (look ! 5 refl)) (and-then ! (load ! (from ! (fld ! refl (stop !))) (look-in ! 17 (sub ! 3 refl (whole !)))) (no-more !)))) (from ! (stop !)) (init ! 13 refl (tt, (wt .1 .0, (wr .1 .1 .1 .0, tt)))) $
+        assigns ! (of-opd ! (load ! (from ! (stop !)) (look ! 13 refl))) (from ! (stop !)) (init ! 3 refl (tt, (wt .1 .0, (wr .1 .1 .1 .0, tt)))) $
+        assigns ! (agg ! (and-then ! (load ! (from ! (stop !)) (look ! 3 refl)) (and-then ! (load ! (from ! (stop !)) (look ! 15 refl)) (and-then ! (load ! (from ! (stop !)) (look ! 17 refl)) (no-more !))))) (from ! (stop !)) (init ! 21 refl (tt, ((wt .1 .0, (wr .1 .1 .1 .0, tt)), (shr-slice-lawful 𝓤 H A W erased κ u8 .typed s _ is″ .0 .1, (wr, tt))))) $
+        returns ! (look ! 21 refl) $ forget ! 3 refl $ forget ! 5 refl $ forget ! 7 refl $ forget ! 9 refl $ forget ! 11 refl $ forget ! 13 refl $ forget ! 15 refl $ forget ! 17 refl $ forget ! 19 refl $ forget ! 21 refl $
         move ! (21 ∷ 22 ∷ []) $ free1 ! $ move ! (19 ∷ 20 ∷ []) $ free1 ! $ move ! (17 ∷ 18 ∷ []) $ free1 ! $ move ! (15 ∷ 16 ∷ []) $ free1 ! $ move ! (13 ∷ 14 ∷ []) $ free1 ! $ move ! (11 ∷ 12 ∷ []) $ free1 ! $ move ! (9 ∷ 10 ∷ []) $ free1 ! $ move ! (7 ∷ 8 ∷ []) $ free1 ! $ move ! (5 ∷ 6 ∷ []) $ free1 ! $ move ! (3 ∷ 4 ∷ []) $ free1 ! $ free0 ! $
-        by ! (exits r is s (wr .1 .0 .fits) e (e′ ∙ ap (λ (x : Found). valueOf (now (d .order)) (x .pulled)) e))))))))))))))))))))
+        by ! (exits r is s (wr .1 .1 .1 .0 .fits) e (e′ ∙ ap (valueOf (now (d .order))) e))))))))))))))))))))
 
 module _ {M : Type 1} (𝓤 : URA M) (H : Heap 𝓤) (A : Atoms 𝓤) (W : Given 𝓤 H A) (mem : Memory → SProp 𝓤) (run : Routine → Fun 𝓤) where
   pull-walks : (C : Calls 𝓤 H) (Λ : Loops 𝓤 H) → FmC 𝓤 H (W .laws) C → Triple 𝓤 (C #order·found-at) (FoundAt 𝓤 H A mem run) → Triple 𝓤 (C #order·value-of) (ValueOf 𝓤 H A mem run)

@@ -6,49 +6,48 @@ use native.Mathlib.Numerals.{add-one}
 use lib.ListN.{length, take, drop, set, getD, length-set, length-take, length-drop, length-append}
 use denote.Ref.{now}
 use borrow.Author.Needs.{needs}
+use Rattle.order.proofs.Pulls.{part-so}
 use Rattle.order.proofs.value_of.Statement.{statement}
 use Rattle.order.proofs.value_of.Tie as tie
 use Rattle.order.proofs.value_of.Reads as reads
 use Rattle.order.proofs.value_of.Lts as lts
-use Rattle.order.proofs.part_at.Reads as part-at-reads
+use Rattle.order.proofs.least.Reads as least-reads
 
-enum-known-pulled : tie.Need-enum-known-pulled
-enum-known-pulled c = search needs
+least-requires : tie.Need-least-requires
+least-requires c κs = search needs
 
-part-at-requires : tie.Need-part-at-requires
-part-at-requires c κs = search needs
+sub-least : tie.Need-sub-least
+sub-least c = search needs
 
-enum-told : tie.Need-enum-told
-enum-told c = search needs
+least-requires-2 : tie.Need-least-requires-2
+least-requires-2 c κs = search needs
 
-part-at-requires-2 : tie.Need-part-at-requires-2
-part-at-requires-2 c κs = search needs
+add-end : tie.Need-add-end
+add-end c = search needs
 
-enum-told-2 : tie.Need-enum-told-2
-enum-told-2 c = search needs
+sub-result : tie.Need-sub-result
+sub-result c = search needs
 
-part-at-requires-3 : tie.Need-part-at-requires-3
-part-at-requires-3 c κs = search needs
+part-result-start : tie.Need-part-result-start
+part-result-start c = search needs
+
+part-result-end : tie.Need-part-result-end
+part-result-end c = search needs
 
 returns : tie.Need-returns
-returns c = rw (c .part-at .ensures, c .before .before .pulled .given .1)
-
-returns-2 : tie.Need-returns-2
-returns-2 c = search needs
-
-returns-3 : tie.Need-returns-3
-returns-3 c = search needs
+returns c =
+    let a = c .before .before .before .before .args in
+    part-so (now (a .order)) (a .found .start) (a .found .len) (c .before .before .least .result) (c .before .least2 .result) (c .before .before .least .ensures) (c .before .least2 .ensures)
 
 pub value-of-spec : {M : Type 1} → statement M
 value-of-spec =
     tie.close
     (tie.spec
-    enum-known-pulled
-    part-at-requires
-    enum-told
-    part-at-requires-2
-    enum-told-2
-    part-at-requires-3
-    returns
-    returns-2
-    returns-3)
+    least-requires
+    sub-least
+    least-requires-2
+    add-end
+    sub-result
+    part-result-start
+    part-result-end
+    returns)

@@ -1,0 +1,83 @@
+use Prim.Native.Nat.{ℕ, suc, _+_, _*_, _-_, _≤_, _<_, _/_, _%_}
+use mathlib.Core.Path.{_≡_, refl, ap, sym, _∙_}
+use mathlib.Core.List.{List, [], _∷_, _++_}
+use native.Mathlib.Omega.{arith}
+use native.Mathlib.Numerals.{add-one}
+use lib.ListN.{length, take, drop, set, getD, length-set, length-take, length-drop, length-append}
+use denote.Ref.{now}
+use borrow.Author.Needs.{needs}
+use Rattle.load.specs.Steps.{endedAs}
+use Rattle.feed.specs.Steps.{stateOf}
+use Rattle.feed.specs.declared.Course.{Course}
+use Rattle.load.proofs.walked_on.Statement.{statement}
+use Rattle.load.proofs.walked_on.Tie as tie
+use Rattle.load.proofs.walked_on.Reads as reads
+use Rattle.load.proofs.walked_on.Lts as lts
+use Rattle.load.proofs.ended_by.Reads as ended-by-reads
+use Rattle.load.proofs.failed_by.Reads as failed-by-reads
+use Rattle.load.proofs.walked.Reads as walked-reads
+
+walked-requires : tie.Need-walked-requires
+walked-requires c κs = search needs
+
+enum-told : tie.Need-enum-told
+enum-told c = search needs
+
+ended-by-requires : tie.Need-ended-by-requires
+ended-by-requires c κs = search needs
+
+enum-known-course : tie.Need-enum-known-course
+enum-known-course c = search needs
+
+enum-known-course-2 : tie.Need-enum-known-course-2
+enum-known-course-2 c = search needs
+
+failed-by-requires : tie.Need-failed-by-requires
+failed-by-requires c κs = search needs
+
+same-length : tie.Need-same-length
+same-length c = search needs
+
+returns : tie.Need-returns
+returns c =
+    let w = c .before .before .before .before .before .before in
+    let t = stateOf (w .walked .result .load) (w .walked .last .1 .0) in
+    let e = sym (ap (λ (x : Course). endedAs x t) (c .before .enum-told .given .1)) ∙ w .walked .ensures in
+    c .ended-by .ensures _ ∙ rw (← e)
+
+same-length-2 : tie.Need-same-length-2
+same-length-2 c = search needs
+
+returns-2 : tie.Need-returns-2
+returns-2 c =
+    let w = c .before .before .before .before .before .before in
+    let t = stateOf (w .walked .result .load) (w .walked .last .1 .0) in
+    let e = sym (ap (λ (x : Course). endedAs x t) (c .before .course .given .1)) ∙ w .walked .ensures in
+    rw (← e)
+
+same-length-3 : tie.Need-same-length-3
+same-length-3 c = search needs
+
+returns-3 : tie.Need-returns-3
+returns-3 c =
+    let w = c .before .before .before .before .before .before .before in
+    let t = stateOf (w .walked .result .load) (w .walked .last .1 .0) in
+    let e = sym (ap (λ (x : Course). endedAs x t) (c .before .before .course2 .given .1)) ∙ w .walked .ensures in
+    rw (c .failed-by .ensures, ← e)
+
+pub walked-on-spec : {M : Type 1} → statement M
+walked-on-spec =
+    tie.close
+    (tie.spec
+    walked-requires
+    enum-told
+    ended-by-requires
+    enum-known-course
+    enum-known-course-2
+    failed-by-requires
+    same-length
+    returns
+    same-length-2
+    returns-2
+    same-length-3
+    returns-3)
