@@ -105,14 +105,14 @@ fn selected_ok(sel: bool, g: u8, i: u8) -> bool
     !sel
 }
 
-// The table's places.
+// The table's places: an array that comes by itself tells its length, which it does not as a card's field.
 fn places(files: [Descriptor; 31]) -> usize
     ensures { λ r. ⌜ (r ≡ 31) × (length files ≡ 31) ⌝ }
 {
     TABLE_LIMIT
 }
 
-// Descriptors that each pass after those before.
+// Descriptors that each pass after those before; the caller has asked that the count is within the table.
 fn descriptors_ok(l: Loading) -> bool
     requires { ⌜ l .count ≤ 31 ⌝ }
     ensures { λ r. ⌜ r ≡ descriptorsOk l ⌝ }
@@ -213,7 +213,7 @@ fn open_ok(o: Open, g: u8, i: u8) -> bool
     }
 }
 
-// Descriptors x 18 + held + missing at most 558 and a multiple of 18, held under 18: each is bounded before the sum.
+// Descriptors x 18 + held + missing at most 558 and a multiple of 18, held under 18. Each is bounded before they are added.
 fn table_fits(count: usize, held: usize, missing: usize) -> bool
     ensures { λ r. ⌜ r ≡ tableFits count held missing ⌝ }
 {
@@ -254,7 +254,7 @@ fn spot_at(l: Loading, tag: u16) -> Spot
     table::spot_of(files, l.count, sfi, nn)
 }
 
-// An 'ssnn' that rule e passes, written + missing at most its record.
+// An 'ssnn' that rule e passes, written + missing at most its record: asked without the sum, which may be too large.
 fn record_fits(spot: Spot, written: usize, missing: usize) -> bool
     ensures { λ r. ⌜ r ≡ recordFits spot written missing ⌝ }
 {
@@ -269,6 +269,7 @@ fn record_fits(spot: Spot, written: usize, missing: usize) -> bool
     }
 }
 
+// The same of an open 'ssnn' by its tag.
 fn open_record_fits(l: Loading, tag: u16, written: usize, missing: usize) -> bool
     requires { ⌜ l .count ≤ 31 ⌝ }
     ensures { λ r. ⌜ r ≡ pendingFits (Open.Record tag written missing) l ⌝ }
