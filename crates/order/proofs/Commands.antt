@@ -1,12 +1,12 @@
 -- The commands of the cut, one after another.
-use Prim.Native.Nat.{ℕ, zero, suc, _+_, _-_, _≤_, _<_}
-use mathlib.Core.Path.{_≡_, refl, sym, ap, _∙_, subst}
-use mathlib.Core.List.{List, [], _∷_, _++_}
+use Prim.Native.Nat.{ℕ, suc, _+_, _-_, _≤_, _<_}
+use mathlib.Core.Path.{_≡_, ap}
+use mathlib.Core.List.{List, [], _∷_}
 use native.Mathlib.Omega.{arith}
 use lib.ListN.{length}
 use borrow.Author.Tests.{lt-ltb, le-ltb}
 use Rattle.lists.specs.Bytes.{part}
-use Rattle.model.specs.Order.{single, unitsIn, packed, cutOf}
+use Rattle.model.specs.Order.{single, cutOf}
 use Rattle.order.specs.declared.Place.{Place}
 use Rattle.order.specs.Cuts.{Fitting, cuttable, unitsFrom, commandsFrom, Command}
 

@@ -1,7 +1,7 @@
 -- A command as it is filled, step by step, from the place where it begins to the place where it closes.
-use Prim.Native.Nat.{ℕ, zero, suc, _+_, _-_, _≤_, _<_}
-use mathlib.Core.Path.{_≡_, refl, sym, ap, _∙_, subst}
-use mathlib.Core.List.{List, [], _∷_, _++_}
+use Prim.Native.Nat.{ℕ, _+_, _-_, _≤_, _<_}
+use mathlib.Core.Path.{_≡_, _∙_}
+use mathlib.Core.List.{List, [], _++_}
 use native.Mathlib.Nat.{sub-self}
 use native.Mathlib.Omega.{arith}
 use lib.ListN.{length, take, drop, length-take, length-drop, drop-of-length-le}
@@ -9,7 +9,7 @@ use lib.Seq.{drop-drop, take-add, take-nil, drop-nil}
 use borrow.Author.Tests.{lt-ltb, le-ltb}
 use Rattle.lists.specs.Bytes.{part}
 use Rattle.model.specs.Stored.{dataRoom}
-use Rattle.model.specs.Order.{single, unitsIn, packed}
+use Rattle.model.specs.Order.{single, packed}
 use Rattle.order.specs.declared.Place.{Place}
 use Rattle.order.specs.declared.Step.{Step}
 use Rattle.order.specs.Steps.{stepOf}

@@ -1,13 +1,12 @@
 -- Records laid over lent room, one behind another.
-use Prim.Native.Nat.{ℕ, zero, suc, _+_, _-_, _*_, _≤_, _<_}
-use mathlib.Core.Path.{_≡_, refl, sym, ap, _∙_, subst}
+use Prim.Native.Nat.{ℕ, _+_, _-_, _≤_}
+use mathlib.Core.Path.{_≡_, refl, sym, _∙_}
 use mathlib.Core.List.{List, [], _∷_, _++_, append-nil}
-use native.Mathlib.Nat.{zero-add}
 use native.Mathlib.Omega.{arith}
-use lib.ListN.{length, take, drop, length-take, length-drop, length-append, length-replicate, drop-of-length-le}
+use lib.ListN.{length, take, drop, length-drop, length-replicate, drop-of-length-le}
 use lib.Seq.{length-take-le}
 use Rattle.lists.specs.Bytes.{part, zeros}
-use Rattle.lists.specs.Over.{overwrite, length-over, over-append, over-then, over-zero, over-mid}
+use Rattle.lists.specs.Over.{overwrite, length-over, over-then, over-zero, over-mid}
 use Rattle.model.specs.Stored.{recordSize, dataRoom, recordOf}
 use Rattle.model.specs.Order.{stored}
 

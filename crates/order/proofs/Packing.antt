@@ -1,7 +1,6 @@
 -- Packing: a unit fits or a command closes; and the bytes of a spannable value fit in bulk.
-use Prim.Native.Nat.{ℕ, zero, suc, _+_, _-_, _≤_, _<_}
-use mathlib.Core.Path.{_≡_, refl, sym, ap, _∙_}
-use mathlib.Core.Bool.{Bool, true, false, cond}
+use Prim.Native.Nat.{ℕ, zero, suc, _+_, _≤_, _<_}
+use mathlib.Core.Path.{_≡_, sym, ap, _∙_}
 use mathlib.Core.List.{List, [], _∷_, _++_, append-nil, append-assoc}
 use native.Mathlib.Omega.{arith}
 use native.Mathlib.Nat.{zero-add}
@@ -9,7 +8,7 @@ use lib.ListN.{length, take, drop, length-append}
 use borrow.Author.Tests.{le-leb, lt-leb}
 use Rattle.model.specs.Stored.{dataRoom}
 use Rattle.model.specs.Order.{single, packed}
-use Rattle.order.specs.Cuts.{Fitting, none, more}
+use Rattle.order.specs.Cuts.{Fitting, more}
 
 pub packed-fits : (cur u : List ℕ) (us : List (List ℕ)) → length cur + length u ≤ dataRoom → packed cur (u ∷ us) ≡ packed (cur ++ u) us
 unfolding packed

@@ -16,7 +16,6 @@ use Rattle.model.specs.declared.Pulled.{Pulled}
 use Rattle.model.specs.declared.Pulled.the-variants.{Ended, Broken, Grouping}
 use Rattle.model.specs.Header.{headerOf}
 use Rattle.model.specs.Order.{pulledAt, pullOf}
-use Rattle.order.specs.declared.Found.{Found}
 use Rattle.order.specs.Reads.{foundBy, foundAt}
 use Rattle.order.proofs.Units.{whole-within}
 

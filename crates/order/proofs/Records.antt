@@ -1,11 +1,11 @@
 -- The writer's records, laid command by command.
-use Prim.Native.Nat.{ℕ, zero, suc, _+_, _-_, _*_, _≤_, _<_}
-use mathlib.Core.Path.{_≡_, refl, sym, ap, _∙_, subst}
-use mathlib.Core.List.{List, [], _∷_, _++_, append-nil}
+use Prim.Native.Nat.{ℕ, suc, _+_, _-_, _*_, _≤_, _<_}
+use mathlib.Core.Path.{_≡_, refl, sym, ap, _∙_}
+use mathlib.Core.List.{List, [], _∷_, append-nil}
 use native.Mathlib.Nat.{zero-add}
 use native.Mathlib.Omega.{arith}
-use lib.ListN.{length, take, drop, length-take, length-drop, length-append, length-replicate}
-use Rattle.lists.specs.Bytes.{part, zeros}
+use lib.ListN.{length, length-take, length-append, length-replicate}
+use Rattle.lists.specs.Bytes.{part}
 use Rattle.lists.specs.Over.{overwrite, length-over, over-then}
 use Rattle.model.specs.Stored.{recordSize, dataRoom, recordOf}
 use Rattle.model.specs.Order.{cutOf, stored, storedAll, recordsFor}

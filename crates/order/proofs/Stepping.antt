@@ -1,9 +1,8 @@
 -- A step of the cutter, over the definition: what it takes goes into the command, and where it takes nothing the command closes.
 use Prim.Native.Nat.{ℕ, zero, suc, _+_, _-_, _≤_, _<_, min}
-use mathlib.Core.Path.{_≡_, refl, sym, ap, _∙_, subst}
+use mathlib.Core.Path.{_≡_, refl, sym, ap, _∙_}
 use mathlib.Core.Bool.{Bool, true, false, cond}
-use mathlib.Core.List.{List, [], _∷_, _++_, append-nil}
-use native.Mathlib.Nat.{zero-add}
+use mathlib.Core.List.{List, [], _∷_, _++_}
 use native.Mathlib.Omega.{arith}
 use lib.Dec.{ltb, leb}
 use lib.ListN.{length, take, drop, length-take, length-drop}
@@ -17,7 +16,7 @@ use Rattle.model.specs.declared.Header.{Header}
 use Rattle.model.specs.declared.Header.the-variants.{Torn, Whole}
 use Rattle.model.specs.Stored.{dataRoom}
 use Rattle.model.specs.Header.{headerOf}
-use Rattle.model.specs.Order.{spannable, single, groupingUnits, unitsBy, unitsIn, packed}
+use Rattle.model.specs.Order.{spannable, single, unitsBy, unitsIn, packed}
 use Rattle.order.specs.declared.Step.{Step}
 use Rattle.order.specs.Steps.{unitStep, groupingStep, headStep, insideStep, stepOf}
 use Rattle.order.specs.Cuts.{Fitting, unitsOf}

@@ -1,18 +1,18 @@
 -- The units of an order: a header lies within, and the turns that a definition has left don't matter.
-use Prim.Native.Nat.{ℕ, zero, suc, _+_, _-_, _≤_, _<_}
+use Prim.Native.Nat.{ℕ, zero, suc, _+_, _≤_, _<_}
 use mathlib.Core.Path.{_≡_, refl, sym, ap, _∙_, subst}
-use mathlib.Core.Bool.{Bool, true, false, cond}
+use mathlib.Core.Bool.{false}
 use mathlib.Core.List.{List, [], _∷_, _++_}
 use native.Mathlib.Omega.{arith}
 use lib.Dec.{eqb, ltb}
-use lib.ListN.{length, take, drop, length-drop}
+use lib.ListN.{length, drop, length-drop}
 use borrow.Author.Tests.{ltb-false}
 use Rattle.lists.specs.Bytes.{byteAt, wordAt}
 use Rattle.lists.specs.Choice.{by-cond}
 use Rattle.model.specs.declared.Head.{Head}
 use Rattle.model.specs.declared.Header.{Header}
 use Rattle.model.specs.declared.Header.the-variants.{Torn, Whole}
-use Rattle.model.specs.Header.{headed, longForm, headerOf}
+use Rattle.model.specs.Header.{longForm, headerOf}
 use Rattle.model.specs.Rows.{rowAt, rowOf, rowTable}
 use Rattle.model.specs.Order.{spannable, groupingUnits, unitsBy, unitsIn}
 

@@ -1,18 +1,10 @@
-use Prim.Native.Nat.{ℕ, suc, _+_, _*_, _-_, _≤_, _<_, _/_, _%_}
-use mathlib.Core.Path.{_≡_, refl, ap, sym, _∙_}
-use mathlib.Core.List.{List, [], _∷_, _++_}
+use Prim.Native.Nat.{_-_}
 use native.Mathlib.Omega.{arith}
-use native.Mathlib.Numerals.{add-one}
-use lib.ListN.{length, take, drop, set, getD, length-set, length-take, length-drop, length-append}
-use Prim.Native.Nat.{zero-le}
+use lib.ListN.{length}
 use denote.Ref.{now}
-use borrow.Author.Needs.{needs}
-use Rattle.order.proofs.Commands.{atStart, fitting-start, Counted, count-one, count-more, count-all}
+use Rattle.order.proofs.Commands.{fitting-start, Counted, count-one, count-more, count-all}
 use Rattle.order.proofs.command_count.Statement.{statement}
 use Rattle.order.proofs.command_count.Tie as tie
-use Rattle.order.proofs.command_count.Reads as reads
-use Rattle.order.proofs.command_count.Lts as lts
-use Rattle.order.proofs.command_end.Reads as command-end-reads
 
 abbrev Inv-loop : tie.InvT-loop
 Inv-loop order end₀ count₀ end count = Counted order end count

@@ -1,23 +1,12 @@
-use Prim.Native.Nat.{ℕ, suc, _+_, _*_, _-_, _≤_, _<_, _/_, _%_}
-use mathlib.Core.Path.{_≡_, refl, ap, sym, _∙_}
-use mathlib.Core.List.{List, [], _∷_, _++_}
+use Prim.Native.Nat.{_+_, _-_}
 use native.Mathlib.Omega.{arith}
-use native.Mathlib.Numerals.{add-one}
-use lib.ListN.{length, take, drop, set, getD, length-set, length-take, length-drop, length-append}
+use lib.ListN.{length}
 use denote.Ref.{now}
-use borrow.Author.Needs.{needs}
-use mathlib.Core.Path.{subst}
-use Rattle.model.specs.Stored.{dataRoom}
 use Rattle.order.specs.declared.Place.{Place}
-use Rattle.order.specs.declared.Step.{Step}
-use Rattle.order.specs.Steps.{stepOf}
 use Rattle.order.proofs.Filling.{fill-starts, fill-more, fill-closes, fill-ends}
-use Rattle.order.specs.Cuts.{Filling, Command}
+use Rattle.order.specs.Cuts.{Filling}
 use Rattle.order.proofs.command_end.Statement.{statement}
 use Rattle.order.proofs.command_end.Tie as tie
-use Rattle.order.proofs.command_end.Reads as reads
-use Rattle.order.proofs.command_end.Lts as lts
-use Rattle.order.proofs.step_at.Reads as step-at-reads
 
 abbrev Inv-loop : tie.InvT-loop
 Inv-loop order start at₀ inside₀ at inside = Filling order start (record { at = at; inside = inside })

@@ -1,19 +1,11 @@
-use Prim.Native.Nat.{ℕ, suc, _+_, _*_, _-_, _≤_, _<_, _/_, _%_}
-use mathlib.Core.Path.{_≡_, refl, ap, sym, _∙_}
-use mathlib.Core.List.{List, [], _∷_, _++_}
+use mathlib.Core.Path.{sym, _∙_}
 use native.Mathlib.Omega.{arith}
-use native.Mathlib.Numerals.{add-one}
-use lib.ListN.{length, take, drop, set, getD, length-set, length-take, length-drop, length-append}
 use denote.Ref.{now}
 use borrow.Author.Needs.{needs}
 use Rattle.order.proofs.Pulls.{found-so, grouping-inside}
 use Rattle.model.specs.declared.Pulled.the-variants.{Ended, Broken, Grouping}
 use Rattle.order.proofs.found_at.Statement.{statement}
 use Rattle.order.proofs.found_at.Tie as tie
-use Rattle.order.proofs.found_at.Reads as reads
-use Rattle.order.proofs.found_at.Lts as lts
-use Rattle.order.proofs.nothing_found.Reads as nothing-found-reads
-use Rattle.order.proofs.pull_at.Reads as pull-at-reads
 
 pull-at-requires : tie.Need-pull-at-requires
 pull-at-requires c κs = search needs

@@ -1,19 +1,7 @@
-use Prim.Native.Nat.{ℕ, suc, _+_, _*_, _-_, _≤_, _<_, _/_, _%_}
-use mathlib.Core.Path.{_≡_, refl, ap, sym, _∙_}
-use mathlib.Core.List.{List, [], _∷_, _++_}
-use native.Mathlib.Omega.{arith}
-use native.Mathlib.Numerals.{add-one}
-use lib.ListN.{length, take, drop, set, getD, length-set, length-take, length-drop, length-append}
-use denote.Ref.{now}
 use borrow.Author.Needs.{needs}
 use Rattle.order.specs.Steps.{groupingStep}
 use Rattle.order.proofs.grouping_step.Statement.{statement}
 use Rattle.order.proofs.grouping_step.Tie as tie
-use Rattle.order.proofs.grouping_step.Reads as reads
-use Rattle.order.proofs.grouping_step.Lts as lts
-use Rattle.order.proofs.is_spannable.Reads as is-spannable-reads
-use Rattle.order.proofs.least.Reads as least-reads
-use Rattle.order.proofs.unit_step.Reads as unit-step-reads
 
 is-spannable-requires : tie.Need-is-spannable-requires
 is-spannable-requires c κs = search needs

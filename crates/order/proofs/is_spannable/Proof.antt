@@ -1,18 +1,7 @@
-use Prim.Native.Nat.{ℕ, suc, _+_, _*_, _-_, _≤_, _<_, _/_, _%_}
-use mathlib.Core.Path.{_≡_, refl, ap, sym, _∙_}
-use mathlib.Core.List.{List, [], _∷_, _++_}
-use native.Mathlib.Omega.{arith}
-use native.Mathlib.Numerals.{add-one}
-use lib.ListN.{length, take, drop, set, getD, length-set, length-take, length-drop, length-append}
-use denote.Ref.{now}
 use borrow.Author.Needs.{needs}
 use Rattle.order.proofs.Units.{unknown-whole}
 use Rattle.order.proofs.is_spannable.Statement.{statement}
 use Rattle.order.proofs.is_spannable.Tie as tie
-use Rattle.order.proofs.is_spannable.Reads as reads
-use Rattle.order.proofs.is_spannable.Lts as lts
-use Rattle.rows.proofs.row_at.Reads as row-at-reads
-use Rattle.rows.proofs.row_of.Reads as row-of-reads
 
 row-of-requires : tie.Need-row-of-requires
 row-of-requires c κs = search needs

@@ -1,20 +1,13 @@
-use Prim.Native.Nat.{ℕ, suc, _+_, _*_, _-_, _≤_, _<_, _/_, _%_}
-use mathlib.Core.Path.{_≡_, refl, ap, sym, _∙_}
-use mathlib.Core.List.{List, [], _∷_, _++_}
+use Prim.Native.Nat.{_-_}
 use native.Mathlib.Omega.{arith}
-use native.Mathlib.Numerals.{add-one}
-use lib.ListN.{length, take, drop, set, getD, length-set, length-take, length-drop, length-append}
+use lib.ListN.{length, length-take}
 use denote.Ref.{now}
 use borrow.Author.Needs.{needs}
 use Rattle.lists.specs.Over.{length-over}
 use Rattle.order.proofs.Records.{Laid, laid-none, laid-more, laid-last}
-use Rattle.order.proofs.Commands.{atStart, fitting-start}
+use Rattle.order.proofs.Commands.{fitting-start}
 use Rattle.order.proofs.lay_commands.Statement.{statement}
 use Rattle.order.proofs.lay_commands.Tie as tie
-use Rattle.order.proofs.lay_commands.Reads as reads
-use Rattle.order.proofs.lay_commands.Lts as lts
-use Rattle.order.proofs.command_end.Reads as command-end-reads
-use Rattle.order.proofs.lay_record.Reads as lay-record-reads
 
 abbrev Inv-loop : tie.InvT-loop
 Inv-loop order room₀ from start₀ end₀ to₀ room start end to = Laid order room₀ from room start end to

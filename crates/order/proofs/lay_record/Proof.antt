@@ -1,18 +1,9 @@
-use Prim.Native.Nat.{ℕ, suc, _+_, _*_, _-_, _≤_, _<_, _/_, _%_}
-use mathlib.Core.Path.{_≡_, refl, ap, sym, _∙_}
-use mathlib.Core.List.{List, [], _∷_, _++_}
 use native.Mathlib.Omega.{arith}
-use native.Mathlib.Numerals.{add-one}
-use lib.ListN.{length, take, drop, set, getD, length-set, length-take, length-drop, length-append}
 use denote.Ref.{now}
 use borrow.Author.Needs.{needs}
 use Rattle.order.proofs.Laying.{record-laid}
 use Rattle.order.proofs.lay_record.Statement.{statement}
 use Rattle.order.proofs.lay_record.Tie as tie
-use Rattle.order.proofs.lay_record.Reads as reads
-use Rattle.order.proofs.lay_record.Lts as lts
-use Rattle.slices.proofs.clear.Reads as clear-reads
-use Rattle.slices.proofs.put_bytes.Reads as put-bytes-reads
 
 cast-t7 : tie.Need-cast-t7
 cast-t7 c = search needs

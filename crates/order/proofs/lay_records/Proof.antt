@@ -1,19 +1,10 @@
-use Prim.Native.Nat.{ℕ, suc, _+_, _*_, _-_, _≤_, _<_, _/_, _%_}
-use mathlib.Core.Path.{_≡_, refl, ap, sym, _∙_}
-use mathlib.Core.List.{List, [], _∷_, _++_}
 use native.Mathlib.Omega.{arith}
-use native.Mathlib.Numerals.{add-one}
-use lib.ListN.{length, take, drop, set, getD, length-set, length-take, length-drop, length-append}
 use denote.Ref.{now}
 use borrow.Author.Needs.{needs}
 use Rattle.lists.specs.Over.{length-over}
 use Rattle.order.proofs.Records.{laid-all, length-records}
 use Rattle.order.proofs.lay_records.Statement.{statement}
 use Rattle.order.proofs.lay_records.Tie as tie
-use Rattle.order.proofs.lay_records.Reads as reads
-use Rattle.order.proofs.lay_records.Lts as lts
-use Rattle.order.proofs.lay_commands.Reads as lay-commands-reads
-use Rattle.order.proofs.lay_record.Reads as lay-record-reads
 
 slice-aggregate-lay-record : tie.Need-slice-aggregate-lay-record
 slice-aggregate-lay-record c = search needs

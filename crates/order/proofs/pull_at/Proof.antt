@@ -1,17 +1,10 @@
-use Prim.Native.Nat.{ℕ, suc, _+_, _*_, _-_, _≤_, _<_, _/_, _%_}
-use mathlib.Core.Path.{_≡_, refl, ap, sym, _∙_}
-use mathlib.Core.List.{List, [], _∷_, _++_}
+use mathlib.Core.Path.{sym, _∙_}
 use native.Mathlib.Omega.{arith}
-use native.Mathlib.Numerals.{add-one}
-use lib.ListN.{length, take, drop, set, getD, length-set, length-take, length-drop, length-append}
 use denote.Ref.{now}
 use borrow.Author.Needs.{needs}
 use Rattle.order.proofs.Pulls.{pull-end, pull-torn, head-there, pull-short, pull-whole}
 use Rattle.order.proofs.pull_at.Statement.{statement}
 use Rattle.order.proofs.pull_at.Tie as tie
-use Rattle.order.proofs.pull_at.Reads as reads
-use Rattle.order.proofs.pull_at.Lts as lts
-use Rattle.header.proofs.header_at.Reads as header-at-reads
 
 returns : tie.Need-returns
 returns c = sym (pull-end _ _ (c .if1 .taken))

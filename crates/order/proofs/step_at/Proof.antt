@@ -1,9 +1,6 @@
-use Prim.Native.Nat.{ℕ, suc, _+_, _*_, _-_, _≤_, _<_, _/_, _%_}
-use mathlib.Core.Path.{_≡_, refl, ap, sym, _∙_}
-use mathlib.Core.List.{List, [], _∷_, _++_}
+use mathlib.Core.Path.{sym, _∙_}
 use native.Mathlib.Omega.{arith}
-use native.Mathlib.Numerals.{add-one}
-use lib.ListN.{length, take, drop, set, getD, length-set, length-take, length-drop, length-append}
+use lib.ListN.{drop, length-drop}
 use denote.Ref.{now}
 use borrow.Author.Needs.{needs}
 use Rattle.order.proofs.Stepping.{step-inside, step-head}
@@ -11,12 +8,6 @@ use Rattle.order.proofs.Units.{whole-within}
 use Rattle.model.specs.declared.Header.the-variants.{Torn, Whole}
 use Rattle.order.proofs.step_at.Statement.{statement}
 use Rattle.order.proofs.step_at.Tie as tie
-use Rattle.order.proofs.step_at.Reads as reads
-use Rattle.order.proofs.step_at.Lts as lts
-use Rattle.header.proofs.header_at.Reads as header-at-reads
-use Rattle.order.proofs.grouping_step.Reads as grouping-step-reads
-use Rattle.order.proofs.least.Reads as least-reads
-use Rattle.order.proofs.unit_step.Reads as unit-step-reads
 
 sub-left : tie.Need-sub-left
 sub-left c = search needs

@@ -1,0 +1,64 @@
+use Prim.Native.Nat.{ℕ, suc, _+_, _*_, _-_, _≤_, _<_, _/_, _%_}
+use mathlib.Core.Path.{_≡_, refl, ap, sym, _∙_}
+use mathlib.Core.List.{List, [], _∷_, _++_}
+use native.Mathlib.Omega.{arith}
+use native.Mathlib.Numerals.{add-one}
+use lib.ListN.{length, take, drop, set, getD, length-set, length-take, length-drop, length-append}
+use denote.Ref.{now}
+use borrow.Author.Needs.{needs}
+use Rattle.card.proofs.personalized.Statement.{statement}
+use Rattle.card.proofs.personalized.Tie as tie
+use Rattle.card.proofs.personalized.Reads as reads
+use Rattle.card.proofs.personalized.Lts as lts
+use Rattle.card.proofs.locked_now.Reads as locked-now-reads
+use Rattle.card.proofs.stored.Reads as stored-reads
+use Rattle.card.proofs.stuck_by.Reads as stuck-by-reads
+
+stored-requires : tie.Need-stored-requires
+stored-requires c κs = search needs
+
+same-length : tie.Need-same-length
+same-length c = search needs
+
+same-length-2 : tie.Need-same-length-2
+same-length-2 c = search needs
+
+returns : tie.Need-returns
+returns c = ?
+
+locked-now-requires : tie.Need-locked-now-requires
+locked-now-requires c κs = search needs
+
+stuck-by-requires : tie.Need-stuck-by-requires
+stuck-by-requires c κs = ?
+
+same-length-3 : tie.Need-same-length-3
+same-length-3 c = search needs
+
+returns-2 : tie.Need-returns-2
+returns-2 c = ?
+
+stuck-by-requires-2 : tie.Need-stuck-by-requires-2
+stuck-by-requires-2 c κs = ?
+
+same-length-4 : tie.Need-same-length-4
+same-length-4 c = search needs
+
+returns-3 : tie.Need-returns-3
+returns-3 c = ?
+
+pub personalized-spec : {M : Type 1} → statement M
+personalized-spec =
+    tie.close
+    (tie.spec
+    stored-requires
+    same-length
+    same-length-2
+    returns
+    locked-now-requires
+    stuck-by-requires
+    same-length-3
+    returns-2
+    stuck-by-requires-2
+    same-length-4
+    returns-3)
