@@ -6,6 +6,8 @@ use native.Mathlib.Numerals.{add-one}
 use lib.ListN.{length, take, drop, set, getD, length-set, length-take, length-drop, length-append}
 use denote.Ref.{now}
 use borrow.Author.Needs.{needs}
+use borrow.Author.Tests.{eq-eqb, ne-eqb}
+use Rattle.model.specs.Events.{event}
 use Rattle.card.proofs.event_on.Statement.{statement}
 use Rattle.card.proofs.event_on.Tie as tie
 use Rattle.card.proofs.event_on.Reads as reads
@@ -23,7 +25,9 @@ same-length-2 : tie.Need-same-length-2
 same-length-2 c = search needs
 
 returns : tie.Need-returns
-returns c = ?
+unfolding event
+returns c =
+    rw (eq-eqb _ _ (c .before .before .before .before .before .before .before .if1 .taken)) (c .before .before .before .before .personalized .ensures)
 
 in-other-states-requires : tie.Need-in-other-states-requires
 in-other-states-requires c κs = search needs
@@ -35,7 +39,9 @@ same-length-4 : tie.Need-same-length-4
 same-length-4 c = search needs
 
 returns-2 : tie.Need-returns-2
-returns-2 c = ?
+unfolding event
+returns-2 c =
+    rw (ne-eqb _ _ (c .before .before .before .before .before .before .before .if1 .left)) (c .before .before .before .before .in-other-states .ensures)
 
 pub event-on-spec : {M : Type 1} → statement M
 event-on-spec =

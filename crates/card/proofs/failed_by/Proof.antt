@@ -1,25 +1,20 @@
-use Prim.Native.Nat.{ℕ, suc, _+_, _*_, _-_, _≤_, _<_, _/_, _%_}
-use mathlib.Core.Path.{_≡_, refl, ap, sym, _∙_}
-use mathlib.Core.List.{List, [], _∷_, _++_}
-use native.Mathlib.Omega.{arith}
-use native.Mathlib.Numerals.{add-one}
-use lib.ListN.{length, take, drop, set, getD, length-set, length-take, length-drop, length-append}
-use denote.Ref.{now}
+use mathlib.Core.Path.{refl}
 use borrow.Author.Needs.{needs}
+use borrow.Author.Tests.{eq-eqb, ne-eqb}
+use Rattle.model.specs.Events.{errs}
 use Rattle.card.proofs.failed_by.Statement.{statement}
 use Rattle.card.proofs.failed_by.Tie as tie
-use Rattle.card.proofs.failed_by.Reads as reads
-use Rattle.card.proofs.failed_by.Lts as lts
-use Rattle.card.proofs.locked_now.Reads as locked-now-reads
 
 locked-now-requires : tie.Need-locked-now-requires
 locked-now-requires c κs = search needs
 
 returns : tie.Need-returns
-returns c = ?
+unfolding errs
+returns c = (refl, λ a. rw (eq-eqb _ 0x5A (c .before .if1 .taken), c .locked-now .ensures))
 
 returns-2 : tie.Need-returns-2
-returns-2 c = ?
+unfolding errs
+returns-2 c = (refl, λ a. rw (ne-eqb _ 0x5A (c .if1 .left)))
 
 pub failed-by-spec : {M : Type 1} → statement M
 failed-by-spec = tie.close (tie.spec locked-now-requires returns returns-2)

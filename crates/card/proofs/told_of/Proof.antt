@@ -1,17 +1,8 @@
-use Prim.Native.Nat.{ℕ, suc, _+_, _*_, _-_, _≤_, _<_, _/_, _%_}
-use mathlib.Core.Path.{_≡_, refl, ap, sym, _∙_}
-use mathlib.Core.List.{List, [], _∷_, _++_}
-use native.Mathlib.Omega.{arith}
-use native.Mathlib.Numerals.{add-one}
-use lib.ListN.{length, take, drop, set, getD, length-set, length-take, length-drop, length-append}
 use denote.Ref.{now}
 use borrow.Author.Needs.{needs}
+use Rattle.card.proofs.Tellings.{told-went, told-asked, told-failed}
 use Rattle.card.proofs.told_of.Statement.{statement}
 use Rattle.card.proofs.told_of.Tie as tie
-use Rattle.card.proofs.told_of.Reads as reads
-use Rattle.card.proofs.told_of.Lts as lts
-use Rattle.card.proofs.failed_by.Reads as failed-by-reads
-use Rattle.card.proofs.lay_answer.Reads as lay-answer-reads
 
 enum-told : tie.Need-enum-told
 enum-told c = search needs
@@ -29,16 +20,25 @@ failed-by-requires : tie.Need-failed-by-requires
 failed-by-requires c κs = search needs
 
 returns : tie.Need-returns
-returns c = ?
+returns c =
+    let s = c .before .before .before .args in
+    λ a. told-went (s .c) (s .course) a (now (s .answer)) (c .enum-told .given .1)
 
 same-length : tie.Need-same-length
 same-length c = search needs
 
 returns-2 : tie.Need-returns-2
-returns-2 c = ?
+returns-2 c =
+    let laid = c .before .before in
+    let arm = laid .before .before .before in
+    let s = arm .before .before .before .args in
+    λ a. told-asked (s .c) (s .course) a (arm .course .given .1) (laid .lay-answer .ensures .0) (laid .lay-answer .ensures .1)
 
 returns-3 : tie.Need-returns-3
-returns-3 c = ?
+returns-3 c =
+    let arm = c .before .before in
+    let s = arm .before .before .before .args in
+    λ a. told-failed (s .c) (s .course) a (now (s .answer)) (arm .course2 .given .1) (c .failed-by .ensures .0) (c .failed-by .ensures .1 a)
 
 pub told-of-spec : {M : Type 1} → statement M
 told-of-spec =

@@ -6,6 +6,11 @@ use native.Mathlib.Numerals.{add-one}
 use lib.ListN.{length, take, drop, set, getD, length-set, length-take, length-drop, length-append}
 use denote.Ref.{now}
 use borrow.Author.Needs.{needs}
+use mathlib.Core.Path.{subst}
+use Rattle.card.proofs.Replies.{plays, refused}
+use Rattle.card.specs.Plays.{Plays}
+use Rattle.model.specs.Stored.{paddedZero, eventIn}
+use Rattle.model.specs.Session.{turnOf}
 use Rattle.card.proofs.turn.Statement.{statement}
 use Rattle.card.proofs.turn.Tie as tie
 use Rattle.card.proofs.turn.Reads as reads
@@ -47,7 +52,8 @@ part-event-on-end : tie.Need-part-event-on-end
 part-event-on-end c = search needs
 
 event-on-requires : tie.Need-event-on-requires
-event-on-requires c κs = search needs
+event-on-requires c κs =
+    (c .before .before .before .before .before .before .before .before .before .before .before .before .before .before .pre .0, c .before .before .before .before .before .before .before .before .before .before .before .before .before .before .pre .1)
 
 same-length : tie.Need-same-length
 same-length c = search needs
@@ -56,19 +62,27 @@ same-length-2 : tie.Need-same-length-2
 same-length-2 c = search needs
 
 returns : tie.Need-returns
-returns c = ?
+unfolding turnOf paddedZero
+returns c =
+    let w = c .before .before .before .before .before .before .before .before .before .before .before .before .wide .result in
+    let k : 4 + w - 4 ≡ w = omega arith in
+    rw (← c .before .before .before .before .before .before .before .before .before .before .before .before .before .before .before .is-kind .ensures, c .before .before .before .before .before .before .before .before .before .before .before .before .before .before .if1 .taken, ← c .before .before .before .before .before .before .before .before .before .before .before .before .wide .ensures .0, ← c .before .before .before .before .before .before .before .before .before .before .before .zero-from .ensures, c .before .before .before .before .before .before .before .before .before .before .if2 .taken) (plays (rw k at (c .before .before .before .before .before .event-on .ensures)))
 
 refused-by-requires : tie.Need-refused-by-requires
 refused-by-requires c κs = search needs
 
 returns-2 : tie.Need-returns-2
-returns-2 c = ?
+unfolding turnOf paddedZero
+returns-2 c =
+    rw (c .refused-by .ensures, ← c .before .before .before .before .before .before .is-kind .ensures, c .before .before .before .before .before .if1 .taken, ← c .before .before .before .wide .ensures .0, ← c .before .before .zero-from .ensures, c .before .if2 .left) (refused 5 _ _ _)
 
 refused-by-requires-2 : tie.Need-refused-by-requires-2
 refused-by-requires-2 c κs = search needs
 
 returns-3 : tie.Need-returns-3
-returns-3 c = ?
+unfolding turnOf
+returns-3 c =
+    rw (c .refused-by2 .ensures, ← c .before .before .is-kind .ensures, c .before .if1 .left) (refused 4 _ _ _)
 
 pub turn-spec : {M : Type 1} → statement M
 turn-spec =
