@@ -1,0 +1,2 @@
+-- The chip record's parts, and its form.
+pub mod Chips

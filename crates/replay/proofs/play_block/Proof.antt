@@ -1,0 +1,72 @@
+use Prim.Native.Nat.{ℕ, suc, _+_, _*_, _-_, _≤_, _<_, _/_, _%_}
+use mathlib.Core.Path.{_≡_, refl, ap, sym, _∙_}
+use mathlib.Core.List.{List, [], _∷_, _++_}
+use native.Mathlib.Omega.{arith}
+use native.Mathlib.Numerals.{add-one}
+use lib.ListN.{length, take, drop, set, getD, length-set, length-take, length-drop, length-append}
+use denote.Ref.{now}
+use borrow.Author.Needs.{needs}
+use Rattle.replay.proofs.play_block.Statement.{statement}
+use Rattle.replay.proofs.play_block.Tie as tie
+use Rattle.replay.proofs.play_block.Reads as reads
+use Rattle.replay.proofs.play_block.Lts as lts
+use Rattle.io.proofs.read_full.Reads as read-full-reads
+use Rattle.io.proofs.write_all.Reads as write-all-reads
+use Rattle.register.proofs.enter_all.Reads as enter-all-reads
+
+read-full-requires : tie.Need-read-full-requires
+read-full-requires c κs = search needs
+
+mul-enter-all : tie.Need-mul-enter-all
+mul-enter-all c = search needs
+
+slice-reshare-prefix-enter-all : tie.Need-slice-reshare-prefix-enter-all
+slice-reshare-prefix-enter-all c = search needs
+
+slice-aggregate-enter-all : tie.Need-slice-aggregate-enter-all
+slice-aggregate-enter-all c = ?
+
+enter-all-requires : tie.Need-enter-all-requires
+enter-all-requires c κs = ?
+
+mul-write-all : tie.Need-mul-write-all
+mul-write-all c = search needs
+
+slice-reshare-prefix-write-all : tie.Need-slice-reshare-prefix-write-all
+slice-reshare-prefix-write-all c = search needs
+
+slice-aggregate-write-all : tie.Need-slice-aggregate-write-all
+slice-aggregate-write-all c = ?
+
+write-all-requires : tie.Need-write-all-requires
+write-all-requires c κs = search needs
+
+same-length : tie.Need-same-length
+same-length c = search needs
+
+same-length-2 : tie.Need-same-length-2
+same-length-2 c = search needs
+
+same-length-3 : tie.Need-same-length-3
+same-length-3 c = search needs
+
+returns : tie.Need-returns
+returns c = search needs
+
+pub play-block-spec : {M : Type 1} → statement M
+play-block-spec =
+    tie.close
+    (tie.spec
+    read-full-requires
+    mul-enter-all
+    slice-reshare-prefix-enter-all
+    slice-aggregate-enter-all
+    enter-all-requires
+    mul-write-all
+    slice-reshare-prefix-write-all
+    slice-aggregate-write-all
+    write-all-requires
+    same-length
+    same-length-2
+    same-length-3
+    returns)
