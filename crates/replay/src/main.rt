@@ -6,6 +6,7 @@ use model::Card;
 ghost use mathlib.Core.Path.{_≡_};
 ghost use Prim.Native.Nat.{_≤_, _<_};
 ghost use lib.ListN.{length};
+ghost use Rattle.lists.specs.Bytes.{zeros};
 ghost use Rattle.model.specs.Stored.{areaSize};
 ghost use Rattle.soundness.specs.Keeps.{Good};
 
@@ -57,6 +58,25 @@ fn play_all(c: Card, area: &mut [u8], block: &mut [u8], lines: &mut [u8]) -> u64
     count
 }
 
+// The buffers, each by what its user asks of it.
+fn clear_area() -> [u8; 4096]
+    ensures { λ r. ⌜ (r ≡ zeros areaSize) × (4096 ≡ length r) ⌝ }
+{
+    [0; 4096]
+}
+
+fn block_buffer() -> [u8; 65520]
+    ensures { λ r. ⌜ 65520 ≡ length r ⌝ }
+{
+    [0; 65520]
+}
+
+fn line_buffer() -> [u8; 6552]
+    ensures { λ r. ⌜ 6552 ≡ length r ⌝ }
+{
+    [0; 6552]
+}
+
 // The events of a card that the chip record gives; none where it is refused.
 fn replayed(chip: &[u8]) -> u64 {
     let made = fresh::fresh(chip);
@@ -64,9 +84,9 @@ fn replayed(chip: &[u8]) -> u64 {
         return 0;
     }
     let card = made.card;
-    let mut area = [0u8; 4096];
-    let mut block = [0u8; 65520];
-    let mut lines = [0u8; 6552];
+    let mut area = clear_area();
+    let mut block = block_buffer();
+    let mut lines = line_buffer();
     play_all(card, &mut area, &mut block, &mut lines)
 }
 

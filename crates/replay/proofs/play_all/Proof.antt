@@ -6,6 +6,8 @@ use native.Mathlib.Numerals.{add-one}
 use lib.ListN.{length, take, drop, set, getD, length-set, length-take, length-drop, length-append}
 use denote.Ref.{now}
 use borrow.Author.Needs.{needs}
+use Rattle.soundness.specs.Keeps.{Good}
+use Rattle.model.specs.Stored.{areaSize}
 use Rattle.replay.proofs.play_all.Statement.{statement}
 use Rattle.replay.proofs.play_all.Tie as tie
 use Rattle.replay.proofs.play_all.Reads as reads
@@ -13,16 +15,19 @@ use Rattle.replay.proofs.play_all.Lts as lts
 use Rattle.replay.proofs.play_block.Reads as play-block-reads
 
 abbrev Inv-loop : tie.InvT-loop
-Inv-loop area₀ block₀ lines₀ card₀ count₀ turns₀ area block lines card count turns = ?
+Inv-loop area₀ block₀ lines₀ card₀ count₀ turns₀ area block lines card count turns =
+    Good areaSize card area × (count < 100000) × (length area ≡ length area₀) × (length block ≡ length block₀) × (length lines ≡ length lines₀)
 
 abbrev μ-loop : tie.MeasureT-loop
-μ-loop area₀ block₀ lines₀ card₀ count₀ turns₀ area block lines card count turns = ?
+μ-loop area₀ block₀ lines₀ card₀ count₀ turns₀ area block lines card count turns = turns
 
 loop-holds : tie.Need-loop-holds Inv-loop μ-loop
-loop-holds c = search needs
+loop-holds c = (c .before .before .before .pre .0, omega arith, refl, refl, refl)
 
 play-block-requires : tie.Need-play-block-requires Inv-loop μ-loop
-play-block-requires c κs = search needs
+play-block-requires c κs =
+    let l = c .before .before .before .before .loop in
+    (l .inv .0, l .inv .1, l .inv .3 ∙ c .before .before .before .before .before .before .before .before .pre .1, l .inv .4 ∙ c .before .before .before .before .before .before .before .before .pre .2)
 
 sub-turns : tie.Need-sub-turns Inv-loop μ-loop
 sub-turns c = search needs
@@ -31,28 +36,34 @@ loop-less : tie.Need-loop-less Inv-loop μ-loop
 loop-less c = search needs
 
 loop-again : tie.Need-loop-again Inv-loop μ-loop
-loop-again c = search needs
+loop-again c =
+    let l = c .before .before .before .before .before .before .before .before .before .before .before .before .before .loop in
+    let p = c .before .before .before .before .before .before .before .before .play-block in
+    (p .ensures .0, p .ensures .1, p .kept .1 .0 ∙ l .inv .2, p .kept .1 .1 .1 .0 ∙ l .inv .3, p .kept .1 .1 .1 .1 .0 ∙ l .inv .4)
 
 same-length : tie.Need-same-length Inv-loop μ-loop
-same-length c = search needs
+same-length c =
+    c .before .before .before .before .before .before .before .before .play-block .kept .1 .0 ∙ c .before .before .before .before .before .before .before .before .before .before .before .before .before .loop .inv .2
 
 same-length-2 : tie.Need-same-length-2 Inv-loop μ-loop
-same-length-2 c = search needs
+same-length-2 c =
+    c .before .before .before .before .before .before .before .before .play-block .kept .1 .1 .1 .0 ∙ c .before .before .before .before .before .before .before .before .before .before .before .before .before .loop .inv .3
 
 same-length-3 : tie.Need-same-length-3 Inv-loop μ-loop
-same-length-3 c = search needs
+same-length-3 c =
+    c .before .before .before .before .before .before .before .before .play-block .kept .1 .1 .1 .1 .0 ∙ c .before .before .before .before .before .before .before .before .before .before .before .before .before .loop .inv .4
 
 returns : tie.Need-returns Inv-loop μ-loop
 returns c = search needs
 
 same-length-4 : tie.Need-same-length-4 Inv-loop μ-loop
-same-length-4 c = search needs
+same-length-4 c = c .before .loop .inv .2
 
 same-length-5 : tie.Need-same-length-5 Inv-loop μ-loop
-same-length-5 c = search needs
+same-length-5 c = c .before .loop .inv .3
 
 same-length-6 : tie.Need-same-length-6 Inv-loop μ-loop
-same-length-6 c = search needs
+same-length-6 c = c .before .loop .inv .4
 
 returns-2 : tie.Need-returns-2 Inv-loop μ-loop
 returns-2 c = search needs

@@ -24,10 +24,11 @@ slice-reshare-prefix-enter-all : tie.Need-slice-reshare-prefix-enter-all
 slice-reshare-prefix-enter-all c = search needs
 
 slice-aggregate-enter-all : tie.Need-slice-aggregate-enter-all
-slice-aggregate-enter-all c = ?
+slice-aggregate-enter-all c = simp length-take (omega (arith, c .before .before .before .before .read-full .ensures .0))
 
 enter-all-requires : tie.Need-enter-all-requires
-enter-all-requires c κs = ?
+enter-all-requires c κs =
+    (c .before .before .before .before .before .before .before .before .before .before .pre .0, c .before .before .before .before .before .before .before .before .before .before .pre .1, simp length-take (omega (arith, c .before .before .before .before .before .read-full .ensures .0, c .before .before .before .before .before .read-full .kept .1 .0, c .before .before .before .before .before .before .before .before .before .before .pre .2, c .before .before .before .before .before .before .before .before .before .before .pre .3)))
 
 mul-write-all : tie.Need-mul-write-all
 mul-write-all c = search needs
@@ -36,7 +37,8 @@ slice-reshare-prefix-write-all : tie.Need-slice-reshare-prefix-write-all
 slice-reshare-prefix-write-all c = search needs
 
 slice-aggregate-write-all : tie.Need-slice-aggregate-write-all
-slice-aggregate-write-all c = ?
+slice-aggregate-write-all c =
+    simp length-take (omega (arith, c .before .before .before .before .before .before .before .before .before .before .before .before .read-full .ensures .0, c .before .before .before .before .before .before .before .before .before .before .before .before .read-full .kept .1 .0, c .before .before .before .before .before .before .enter-all .kept .1 .1 .1 .1 .0, c .before .before .before .before .before .before .before .before .before .before .before .before .before .before .before .before .before .pre .2, c .before .before .before .before .before .before .before .before .before .before .before .before .before .before .before .before .before .pre .3))
 
 write-all-requires : tie.Need-write-all-requires
 write-all-requires c κs = search needs

@@ -1,0 +1,64 @@
+use Prim.Native.Nat.{ℕ, suc, _+_, _*_, _-_, _≤_, _<_, _/_, _%_}
+use mathlib.Core.Path.{_≡_, refl, ap, sym, _∙_}
+use mathlib.Core.List.{List, [], _∷_, _++_}
+use native.Mathlib.Omega.{arith}
+use native.Mathlib.Numerals.{add-one}
+use lib.ListN.{length, take, drop, set, getD, length-set, length-take, length-drop, length-append}
+use denote.Ref.{now}
+use borrow.Author.Needs.{needs}
+use Rattle.soundness.proofs.Sessions.{fresh-keeps}
+use Rattle.replay.proofs.replayed.Statement.{statement}
+use Rattle.replay.proofs.replayed.Tie as tie
+use Rattle.replay.proofs.replayed.Reads as reads
+use Rattle.replay.proofs.replayed.Lts as lts
+use Rattle.fresh.proofs.fresh.Reads as fresh-reads
+use Rattle.replay.proofs.block_buffer.Reads as block-buffer-reads
+use Rattle.replay.proofs.clear_area.Reads as clear-area-reads
+use Rattle.replay.proofs.line_buffer.Reads as line-buffer-reads
+use Rattle.replay.proofs.play_all.Reads as play-all-reads
+
+fresh-requires : tie.Need-fresh-requires
+fresh-requires c κs = search needs
+
+returns : tie.Need-returns
+returns c = search needs
+
+clear-area-requires : tie.Need-clear-area-requires
+clear-area-requires c κs = search needs
+
+block-buffer-requires : tie.Need-block-buffer-requires
+block-buffer-requires c κs = search needs
+
+line-buffer-requires : tie.Need-line-buffer-requires
+line-buffer-requires c κs = search needs
+
+slice-aggregate-play-all : tie.Need-slice-aggregate-play-all
+slice-aggregate-play-all c = search needs
+
+slice-aggregate-play-all-2 : tie.Need-slice-aggregate-play-all-2
+slice-aggregate-play-all-2 c = search needs
+
+slice-aggregate-play-all-3 : tie.Need-slice-aggregate-play-all-3
+slice-aggregate-play-all-3 c = search needs
+
+play-all-requires : tie.Need-play-all-requires
+play-all-requires c κs =
+    (rw (c .before .before .before .before .before .before .before .before .before .fresh .ensures, c .before .before .before .before .before .clear-area .ensures .0) (fresh-keeps (now (c .before .before .before .before .before .before .before .before .before .before .before .args .chip))), sym (c .before .before .before .before .block-buffer .ensures), sym (c .before .before .before .line-buffer .ensures))
+
+returns-2 : tie.Need-returns-2
+returns-2 c = search needs
+
+pub replayed-spec : {M : Type 1} → statement M
+replayed-spec =
+    tie.close
+    (tie.spec
+    fresh-requires
+    returns
+    clear-area-requires
+    block-buffer-requires
+    line-buffer-requires
+    slice-aggregate-play-all
+    slice-aggregate-play-all-2
+    slice-aggregate-play-all-3
+    play-all-requires
+    returns-2)
