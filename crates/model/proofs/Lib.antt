@@ -3,3 +3,4 @@ pub mod Scenes
 pub mod Computed
 pub mod Examples
 pub mod Witnesses
+pub mod Twins

@@ -1,0 +1,65 @@
+use mathlib.Core.Path.{refl}
+use native.Mathlib.Omega.{arith}
+use lib.ListN.{length}
+use denote.Ref.{now}
+use borrow.Author.Needs.{needs}
+use Rattle.writer.proofs.Numbers.{no-room, has-room}
+use Rattle.order.proofs.Records.{length-records}
+use Rattle.writer.proofs.cut_into.Statement.{statement}
+use Rattle.writer.proofs.cut_into.Tie as tie
+
+command-count-requires : tie.Need-command-count-requires
+command-count-requires c κs = search needs
+
+add-count : tie.Need-add-count
+add-count c =
+    let s = c .before .before .before in
+    let n = length-records (now (s .args .order)) in
+    rw (c .command-count .ensures) (omega arith)
+
+mul-if1 : tie.Need-mul-if1
+mul-if1 c =
+    let s = c .before .before .before in
+    let n = length-records (now (s .args .order)) in
+    rw (c .command-count .ensures) (omega arith)
+
+refused-by-requires : tie.Need-refused-by-requires
+refused-by-requires c κs = search needs
+
+returns : tie.Need-returns
+returns c =
+    let s = c .before .before .before .before .before in
+    let n = length-records (now (s .args .order)) in
+    let e = c .before .before .command-count .ensures in
+    rw (no-room (now (s .args .order)) (length (now (s .args .room))) (omega arith)) (c .refused-by .ensures (now (s .args .room)))
+
+lay-records-requires : tie.Need-lay-records-requires
+lay-records-requires c κs =
+    let s = c .before .before .before .before .before in
+    let n = length-records (now (s .args .order)) in
+    let e = c .before .before .command-count .ensures in
+    (s .pre .0, omega arith)
+
+same-length : tie.Need-same-length
+same-length c = search needs
+
+returns-2 : tie.Need-returns-2
+returns-2 c =
+    let s = c .before .before .before .before .before .before .before .before in
+    let n = length-records (now (s .args .order)) in
+    let e = c .before .before .before .before .before .command-count .ensures in
+    rw (has-room (now (s .args .order)) (length (now (s .args .room))) (omega arith))
+    (record { number = refl; count = omega arith; room = c .before .before .lay-records .ensures })
+
+pub cut-into-spec : {M : Type 1} → statement M
+cut-into-spec =
+    tie.close
+    (tie.spec
+    command-count-requires
+    add-count
+    mul-if1
+    refused-by-requires
+    returns
+    lay-records-requires
+    same-length
+    returns-2)
