@@ -1,7 +1,7 @@
 -- Completeness by the card's own walk, over '9484' and the order behind it.
 use Prim.Native.Nat.{ℕ, _+_, _-_, _≤_}
 use mathlib.Core.Path.{_≡_, refl, ap}
-use mathlib.Core.Bool.{Bool, true}
+use mathlib.Core.Bool.{Bool, true, false}
 use mathlib.Core.List.{List, [], _∷_, _++_}
 use native.Mathlib.Omega.{arith}
 use lib.Seq.{take-at}
@@ -11,11 +11,11 @@ use Rattle.lists.specs.Over.{overwrite, over-then, over-zero}
 use Rattle.model.specs.declared.Loading.{Loading}
 use Rattle.model.specs.Loads.{withTaken}
 use Rattle.model.specs.Stored.{freshLoading, areaSize}
-use Rattle.model.specs.Rows.{taken, withRow}
+use Rattle.model.specs.Rows.{taken, withRow, mandatoryMissing}
 use Rattle.model.specs.Table.{tablePasses}
 use Rattle.model.specs.Rules.{Result}
 use Rattle.model.specs.Sound.{secretsOk, soundWith}
-use Rattle.model.specs.Command.{walk}
+use Rattle.model.specs.Command.{walk, isShut, ready}
 use Rattle.model.specs.Order.{challengedState, finished, complete, orderLimit}
 use Rattle.soundness.specs.Keeps.{Onward}
 use Rattle.feed.specs.Steps.{stateOf, activeLife}
@@ -23,6 +23,15 @@ use Rattle.cutting.specs.Packs.{longestUnit, Sized, none, more}
 use Rattle.cutting.proofs.Commands.{units-sized}
 use Rattle.order.specs.Cuts as cuts
 use Rattle.writer.specs.Writes.{passesBehind}
+
+-- a state where a mandatory row is missing is not ready; where none is, it is ready exactly if nothing is open
+pub missing-not : (l : Loading) (a : List ℕ) → mandatoryMissing (l .rows) ≡ true → false ≡ ready (stateOf l a)
+unfolding ready
+missing-not l a e = rw e
+
+pub ready-so : (l : Loading) (a : List ℕ) (x : Bool) → mandatoryMissing (l .rows) ≡ false → x ≡ isShut (l .pending) → x ≡ ready (stateOf l a)
+unfolding ready
+ready-so l a x e f = rw e f
 
 -- the card's walk may begin where the definition's does
 pub sound-start : soundWith activeLife (challengedState .load) ≡ true

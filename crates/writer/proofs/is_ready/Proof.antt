@@ -1,5 +1,6 @@
 use borrow.Author.Needs.{needs}
-use Rattle.model.specs.Command.{ready}
+use mathlib.Core.Path.{sym, _∙_}
+use Rattle.writer.proofs.Complete.{missing-not, ready-so}
 use Rattle.writer.proofs.is_ready.Statement.{statement}
 use Rattle.writer.proofs.is_ready.Tie as tie
 
@@ -7,15 +8,14 @@ mandatory-missing-requires : tie.Need-mandatory-missing-requires
 mandatory-missing-requires c κs = search needs
 
 returns : tie.Need-returns
-unfolding ready
-returns c = λ a. simp (← c .before .mandatory-missing .ensures, c .if1 .taken)
+returns c = λ a. missing-not (c .before .before .args .l) a (sym (c .before .mandatory-missing .ensures) ∙ c .if1 .taken)
 
 is-shut-requires : tie.Need-is-shut-requires
 is-shut-requires c κs = search needs
 
 returns-2 : tie.Need-returns-2
-unfolding ready
-returns-2 c = λ a. simp (← c .before .before .mandatory-missing .ensures, c .before .if1 .left, c .is-shut .ensures)
+returns-2 c =
+    λ a. ready-so (c .before .before .before .args .l) a (c .is-shut .result) (sym (c .before .before .mandatory-missing .ensures) ∙ c .before .if1 .left) (c .is-shut .ensures)
 
 pub is-ready-spec : {M : Type 1} → statement M
 is-ready-spec = tie.close (tie.spec mandatory-missing-requires returns is-shut-requires returns-2)

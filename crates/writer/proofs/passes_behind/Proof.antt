@@ -1,3 +1,4 @@
+use native.Mathlib.Omega.{arith}
 use mathlib.Core.Path.{ap, sym, _∙_}
 use denote.Ref.{now}
 use borrow.Author.Needs.{needs}
@@ -19,7 +20,7 @@ slice-aggregate-walked c = search needs
 
 walked-requires : tie.Need-walked-requires
 walked-requires c κs =
-    (c .before .before .before .before .pre, walking-start _ _ _ (c .before .before .fresh-loading .ensures) (c .before .with-taken .ensures))
+    (omega arith, walking-start _ _ _ (c .before .before .fresh-loading .ensures) (c .before .with-taken .ensures))
 
 enum-told : tie.Need-enum-told
 enum-told c = search needs

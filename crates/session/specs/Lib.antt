@@ -1,0 +1,2 @@
+-- What the calls on a session and on a stored record say.
+pub mod Runs

@@ -1,0 +1,53 @@
+use native.Mathlib.Omega.{arith}
+use lib.ListN.{length-take}
+use denote.Ref.{now}
+use borrow.Author.Needs.{needs}
+use Rattle.trace.proofs.put_front.Statement.{statement}
+use Rattle.trace.proofs.put_front.Tie as tie
+
+put-none-requires : tie.Need-put-none-requires
+put-none-requires c κs = search needs
+
+same-length : tie.Need-same-length
+same-length c = search needs
+
+returns : tie.Need-returns
+returns c = search needs
+
+at-most-requires : tie.Need-at-most-requires
+at-most-requires c κs = search needs
+
+put-byte-requires : tie.Need-put-byte-requires
+put-byte-requires c κs = search needs
+
+add-put-hex : tie.Need-add-put-hex
+add-put-hex c = search needs
+
+slice-aggregate-put-hex : tie.Need-slice-aggregate-put-hex
+slice-aggregate-put-hex c = simp length-take (omega (arith, c .before .before .before .before .before .before .at-most .ensures))
+
+put-hex-requires : tie.Need-put-hex-requires
+put-hex-requires c κs = simp length-take (omega (arith, c .before .before .before .before .before .before .at-most .ensures))
+
+same-length-2 : tie.Need-same-length-2
+same-length-2 c = search needs
+
+returns-2 : tie.Need-returns-2
+returns-2 c =
+    let k = c .before .before .before .before .before .before .before .before .before .at-most .result in
+    omega (arith, c .before .before .put-hex .ensures .0, length-take k (now (c .before .before .before .before .before .before .before .before .before .before .before .before .before .args .bytes)))
+
+pub put-front-spec : {M : Type 1} → statement M
+put-front-spec =
+    tie.close
+    (tie.spec
+    put-none-requires
+    same-length
+    returns
+    at-most-requires
+    put-byte-requires
+    add-put-hex
+    slice-aggregate-put-hex
+    put-hex-requires
+    same-length-2
+    returns-2)

@@ -1,0 +1,73 @@
+use mathlib.Core.Path.{_≡_}
+use lib.ListN.{length}
+use borrow.Author.Needs.{needs}
+use Rattle.model.specs.Stored.{areaSize}
+use Rattle.soundness.specs.Keeps.{Good}
+use Rattle.trace.proofs.trace_blocks.Statement.{statement}
+use Rattle.trace.proofs.trace_blocks.Tie as tie
+
+abbrev Inv-loop : tie.InvT-loop
+Inv-loop area₀ block₀ lines₀ card₀ turns₀ area block lines card turns =
+    Good areaSize card area × (length area ≡ length area₀) × (length block ≡ length block₀) × (length lines ≡ length lines₀)
+
+abbrev μ-loop : tie.MeasureT-loop
+μ-loop area₀ block₀ lines₀ card₀ turns₀ area block lines card turns = turns
+
+loop-holds : tie.Need-loop-holds Inv-loop μ-loop
+loop-holds c = search needs
+
+trace-block-requires : tie.Need-trace-block-requires Inv-loop μ-loop
+trace-block-requires c κs = search needs
+
+sub-turns : tie.Need-sub-turns Inv-loop μ-loop
+sub-turns c = search needs
+
+loop-less : tie.Need-loop-less Inv-loop μ-loop
+loop-less c = search needs
+
+loop-again : tie.Need-loop-again Inv-loop μ-loop
+loop-again c = search needs
+
+same-length : tie.Need-same-length Inv-loop μ-loop
+same-length c = search needs
+
+same-length-2 : tie.Need-same-length-2 Inv-loop μ-loop
+same-length-2 c = search needs
+
+same-length-3 : tie.Need-same-length-3 Inv-loop μ-loop
+same-length-3 c = search needs
+
+returns : tie.Need-returns Inv-loop μ-loop
+returns c = search needs
+
+same-length-4 : tie.Need-same-length-4 Inv-loop μ-loop
+same-length-4 c = search needs
+
+same-length-5 : tie.Need-same-length-5 Inv-loop μ-loop
+same-length-5 c = search needs
+
+same-length-6 : tie.Need-same-length-6 Inv-loop μ-loop
+same-length-6 c = search needs
+
+returns-2 : tie.Need-returns-2 Inv-loop μ-loop
+returns-2 c = search needs
+
+pub trace-blocks-spec : {M : Type 1} → statement M
+trace-blocks-spec =
+    tie.close
+    (tie.spec
+    Inv-loop
+    μ-loop
+    loop-holds
+    trace-block-requires
+    sub-turns
+    loop-less
+    loop-again
+    same-length
+    same-length-2
+    same-length-3
+    returns
+    same-length-4
+    same-length-5
+    same-length-6
+    returns-2)
