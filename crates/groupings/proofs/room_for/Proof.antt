@@ -1,0 +1,24 @@
+use native.Mathlib.Omega.{arith}
+use lib.ListN.{length-take}
+use borrow.Author.Needs.{needs}
+use Rattle.groupings.proofs.room_for.Statement.{statement}
+use Rattle.groupings.proofs.room_for.Tie as tie
+
+sub-if1 : tie.Need-sub-if1
+sub-if1 c = search needs
+
+slice-aggregate-write-all : tie.Need-slice-aggregate-write-all
+slice-aggregate-write-all c = simp length-take (omega arith)
+
+write-all-requires : tie.Need-write-all-requires
+write-all-requires c κs = search needs
+
+returns : tie.Need-returns
+returns c = search needs
+
+returns-2 : tie.Need-returns-2
+returns-2 c = search needs
+
+pub room-for-spec : {M : Type 1} → statement M
+room-for-spec =
+    tie.close (tie.spec sub-if1 slice-aggregate-write-all write-all-requires returns returns-2)
