@@ -17,7 +17,7 @@ use Rattle.feed.specs.declared.Course.{Course}
 use Rattle.feed.specs.declared.Course.the-variants.{Went, Asked, Failed}
 use Rattle.feed.specs.declared.Step.{Step}
 use Rattle.feed.specs.Steps.{stateOf}
-use Rattle.load.specs.Steps.{endedAs, ended}
+use Rattle.records.specs.Steps.{endedAs, ended}
 use Rattle.card.specs.declared.Told.{Told}
 use Rattle.card.specs.Plays.{commandedAs, Plays}
 

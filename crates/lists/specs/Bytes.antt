@@ -86,9 +86,13 @@ pub same-end : (a b : List ℕ) (i : ℕ) → length a ≡ length b → length a
 unfolding same
 same-end a b i e h = rw (drop-of-length-le a h, drop-of-length-le b (rw e at h))
 
-and-false : (t : Bool) → (t && false) ≡ false
+pub and-false : (t : Bool) → (t && false) ≡ false
 and-false true = refl
 and-false false = refl
+
+pub and-true : (t : Bool) → (t && true) ≡ t
+and-true true = refl
+and-true false = refl
 
 pub same-length : (a b : List ℕ) → (length a ≡ length b → ⊥) → same a b ≡ false
 unfolding same

@@ -13,7 +13,7 @@ use Rattle.model.specs.Rules.{roomOf, lengthOk}
 use Rattle.soundness.proofs.Tests.{and-l, and-r}
 use Rattle.soundness.proofs.Taking.{by-row}
 use Rattle.soundness.proofs.RowFacts.{room-most}
-use Rattle.load.specs.Steps.{Sized}
+use Rattle.records.specs.Steps.{Sized}
 
 -- no row's step is 0
 pub row-steps : (r : ℕ) → 1 ≤ r → r ≤ 11 → 1 ≤ rowAt r .step

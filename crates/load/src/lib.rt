@@ -24,7 +24,7 @@ ghost use Rattle.model.specs.Rules.{thence, isQuery, query, challenged, startup
 ghost use Rattle.model.specs.Command.{isShut, walk, theEnd, command};
 ghost use Rattle.soundness.specs.Keeps.{Ruled};
 ghost use Rattle.feed.specs.Steps.{stateOf, stepped, took, Sure};
-ghost use Rattle.load.specs.Steps.{ended, fromF, fromE, fromD, fromC, fromB, fitsRow, Sized, Dued, Roomed, Walking};
+ghost use Rattle.records.specs.Steps.{ended, fromF, fromE, fromD, fromC, fromB, fitsRow, Sized, Dued, Roomed, Walking};
 
 const RECORD_ROW: usize = 11;
 
@@ -397,6 +397,11 @@ pub fn walked(l: Loading, area: &mut [u8], capacity: u8, p1: u8, d: &[u8], at: u
     let mut i = at;
     let mut turns = d.len() - at;
     while 0 < turns {
+        // records first: a run of them leaves the rest of the loading part where it is
+        let run = records::run_from(load, area, d, i, turns);
+        load.last = run.last;
+        i = run.at;
+        turns = run.turns;
         if d.len() <= i {
             return Step {
                 course: Course::Went(i),

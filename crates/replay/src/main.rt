@@ -10,8 +10,8 @@ ghost use Rattle.lists.specs.Bytes.{zeros};
 ghost use Rattle.model.specs.Stored.{areaSize};
 ghost use Rattle.soundness.specs.Keeps.{Good};
 
-// 252 records, and their lines.
-const BLOCK_SIZE: usize = 65520;
+// 63 records, and their lines.
+const BLOCK_SIZE: usize = 16380;
 
 // The card after a block, the events so far by their last five digits, and whether the input goes on.
 struct Block {
@@ -22,7 +22,7 @@ struct Block {
 
 // Reads a block, plays its whole records and writes their lines. A torn last record is not an event.
 fn play_block(c: Card, area: &mut [u8], count: u64, block: &mut [u8], lines: &mut [u8]) -> Block
-    requires { ⌜ Good areaSize c (now area) × (count < 100000) × (length (now block) ≡ 65520) × (length (now lines) ≡ 6552) ⌝ }
+    requires { ⌜ Good areaSize c (now area) × (count < 100000) × (length (now block) ≡ 16380) × (length (now lines) ≡ 1638) ⌝ }
     ensures { λ r. ⌜ Good areaSize (r .card) (now (area .exit)) × (r .count < 100000) ⌝ }
 {
     let got = io::read_full(STDIN_FILENO, block);
@@ -39,7 +39,7 @@ fn play_block(c: Card, area: &mut [u8], count: u64, block: &mut [u8], lines: &mu
 
 // The loop counts its turns down from a number that no run uses up, since nothing says that an input ends.
 fn play_all(c: Card, area: &mut [u8], block: &mut [u8], lines: &mut [u8]) -> u64
-    requires { ⌜ Good areaSize c (now area) × (length (now block) ≡ 65520) × (length (now lines) ≡ 6552) ⌝ }
+    requires { ⌜ Good areaSize c (now area) × (length (now block) ≡ 16380) × (length (now lines) ≡ 1638) ⌝ }
 {
     let mut card = c;
     let mut count: u64 = 0;
@@ -65,16 +65,16 @@ fn clear_area() -> [u8; 4096]
     [0; 4096]
 }
 
-fn block_buffer() -> [u8; 65520]
-    ensures { λ r. ⌜ 65520 ≡ length r ⌝ }
+fn block_buffer() -> [u8; 16380]
+    ensures { λ r. ⌜ 16380 ≡ length r ⌝ }
 {
-    [0; 65520]
+    [0; 16380]
 }
 
-fn line_buffer() -> [u8; 6552]
-    ensures { λ r. ⌜ 6552 ≡ length r ⌝ }
+fn line_buffer() -> [u8; 1638]
+    ensures { λ r. ⌜ 1638 ≡ length r ⌝ }
 {
-    [0; 6552]
+    [0; 1638]
 }
 
 // The events of a card that the chip record gives; none where it is refused.

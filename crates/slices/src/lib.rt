@@ -37,18 +37,19 @@ pub fn word_at(s: &[u8], at: usize) -> u16
     word(s[at], s[at + 1])
 }
 
-// Every byte from `at` on is zero.
+// Every byte from `at` on is zero. The loop does not stop early: so many bytes are looked at in one step.
 pub fn zero_from(s: &[u8], at: usize) -> bool
     ensures { λ r. ⌜ r ≡ allZero (drop at (now (s .entry))) ⌝ }
 {
+    let mut zero = true;
     let mut i = at;
     while i < s.len() {
         if s[i] != 0 {
-            return false;
+            zero = false;
         }
         i += 1;
     }
-    true
+    zero
 }
 
 // The same bytes, and as many.

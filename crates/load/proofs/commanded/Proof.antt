@@ -11,7 +11,7 @@ use Rattle.soundness.proofs.Keeps.{fed-goes}
 use Rattle.soundness.specs.Keeps.{GoesOn}
 use Rattle.model.specs.Stored.{areaSize}
 use Rattle.model.specs.Command.{command}
-use Rattle.load.proofs.Walks.{walk-ends}
+use Rattle.records.proofs.Walks.{walk-ends}
 use Rattle.feed.specs.Steps.{stateOf, coursed, activeLife}
 use Rattle.feed.specs.declared.Course.{Course}
 use Rattle.load.proofs.commanded.Statement.{statement}

@@ -7,9 +7,9 @@ use lib.ListN.{length, take, drop, set, getD, length-set, length-take, length-dr
 use denote.Ref.{now}
 use borrow.Author.Needs.{needs}
 use Rattle.model.specs.Rules.{query}
-use Rattle.load.specs.Steps.{fromC}
+use Rattle.records.specs.Steps.{fromC}
 use Rattle.feed.specs.Steps.{stateOf}
-use Rattle.load.proofs.Chains.{b-other, b-query, query-ends, query-stops}
+use Rattle.records.proofs.Chains.{b-other, b-query, query-ends, query-stops}
 use Rattle.load.proofs.from_b.Statement.{statement}
 use Rattle.load.proofs.from_b.Tie as tie
 use Rattle.load.proofs.from_b.Reads as reads

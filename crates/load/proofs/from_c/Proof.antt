@@ -8,7 +8,7 @@ use denote.Ref.{now}
 use borrow.Author.Needs.{needs}
 use Rattle.load.proofs.Openings.{sure-personal}
 use Rattle.feed.specs.Steps.{stateOf}
-use Rattle.load.proofs.Chains.{c-refuses, c-moves}
+use Rattle.records.proofs.Chains.{c-refuses, c-moves}
 use Rattle.load.proofs.from_c.Statement.{statement}
 use Rattle.load.proofs.from_c.Tie as tie
 use Rattle.load.proofs.from_c.Reads as reads

@@ -8,7 +8,7 @@ use denote.Ref.{now}
 use borrow.Author.Needs.{needs}
 use Rattle.soundness.proofs.Walks.{dueRow-passes}
 use Rattle.feed.specs.Steps.{stateOf}
-use Rattle.load.proofs.Chains.{d-passes, d-refuses}
+use Rattle.records.proofs.Chains.{d-passes, d-refuses}
 use Rattle.load.proofs.from_d.Statement.{statement}
 use Rattle.load.proofs.from_d.Tie as tie
 use Rattle.load.proofs.from_d.Reads as reads

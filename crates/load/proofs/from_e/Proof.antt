@@ -8,7 +8,7 @@ use denote.Ref.{now}
 use borrow.Author.Needs.{needs}
 use Rattle.soundness.proofs.Parts.{sound-parts}
 use Rattle.feed.specs.Steps.{stateOf, activeLife}
-use Rattle.load.proofs.Chains.{e-passes, e-refuses}
+use Rattle.records.proofs.Chains.{e-passes, e-refuses}
 use Rattle.load.proofs.from_e.Statement.{statement}
 use Rattle.load.proofs.from_e.Tie as tie
 use Rattle.load.proofs.from_e.Reads as reads

@@ -10,13 +10,13 @@ use borrow.Author.Tests.{le-leb, lt-leb}
 use lib.Seq.{drop-drop}
 use mathlib.Core.Bool.{true, false}
 use Rattle.feed.specs.Steps.{stateOf}
-use Rattle.load.specs.Steps.{fitsRow}
+use Rattle.records.specs.Steps.{fitsRow}
 use Rattle.model.specs.Rules.{lengthOk}
 use Rattle.model.specs.Rows.{rowAt}
 use Rattle.model.specs.declared.Row.{Row}
 use Rattle.soundness.specs.Keeps.{Ruled}
 use Rattle.load.proofs.Sizes.{row-steps, sized-of}
-use Rattle.load.proofs.Chains.{f-refuses, f-spans, f-whole, f-cut}
+use Rattle.records.proofs.Chains.{f-refuses, f-spans, f-whole, f-cut}
 use Rattle.load.proofs.from_f.Statement.{statement}
 use Rattle.load.proofs.from_f.Tie as tie
 use Rattle.load.proofs.from_f.Reads as reads

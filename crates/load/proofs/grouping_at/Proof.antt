@@ -7,7 +7,7 @@ use lib.ListN.{length, take, drop, set, getD, length-set, length-take, length-dr
 use denote.Ref.{now}
 use borrow.Author.Needs.{needs}
 use Rattle.feed.specs.Steps.{stateOf}
-use Rattle.load.proofs.Chains.{a-whole, a-torn, header-within}
+use Rattle.records.proofs.Chains.{a-whole, a-torn, header-within}
 use Rattle.load.proofs.grouping_at.Statement.{statement}
 use Rattle.load.proofs.grouping_at.Tie as tie
 use Rattle.load.proofs.grouping_at.Reads as reads

@@ -11,13 +11,15 @@ use Rattle.feed.specs.declared.Course.{Course}
 use Rattle.model.specs.Rules.{grouping, went, asked, failed}
 use Rattle.model.specs.Command.{walk}
 use Rattle.feed.specs.Steps.{stateOf}
-use Rattle.load.specs.Steps.{Walking}
-use Rattle.load.proofs.Walks.{walk-ends, walk-out, walk-turn, walk-goes}
+use Rattle.records.specs.Steps.{Walking}
+use Rattle.records.proofs.Walks.{walk-ends, walk-out, walk-turn, walk-goes}
+use Rattle.model.specs.Loads.{withLast}
 use Rattle.load.proofs.walked.Statement.{statement}
 use Rattle.load.proofs.walked.Tie as tie
 use Rattle.load.proofs.walked.Reads as reads
 use Rattle.load.proofs.walked.Lts as lts
 use Rattle.load.proofs.grouping_at.Reads as grouping-at-reads
+use Rattle.records.proofs.run_from.Reads as run-from-reads
 
 abbrev Inv-loop : tie.InvT-loop
 Inv-loop area₀ capacity p1 d at load₀ i₀ turns₀ area load i turns =
@@ -33,19 +35,25 @@ sub-turns c = search needs
 loop-holds : tie.Need-loop-holds Inv-loop μ-loop
 loop-holds c = (c .before .before .pre .1, refl, refl)
 
+run-from-requires : tie.Need-run-from-requires Inv-loop μ-loop
+run-from-requires c κs = let l = c .before .before .loop in (omega arith, l .inv .0)
+
 same-length : tie.Need-same-length Inv-loop μ-loop
 same-length c = search needs
 
 returns : tie.Need-returns Inv-loop μ-loop
 returns c =
-    let s = c .before .before .before .before .before .args in
-    let l = c .before .before .loop in
-    sym (l .inv .2 ∙ walk-ends (s .capacity) (length (now (s .d))) (s .p1) (stateOf (l .load) (l .area)) (l .turns) (l .i) (now (s .d)) (c .if1 .taken))
+    let f = c .before .before .before in
+    let l = f .before .before .before .loop in
+    let s = f .before .before .before .before .before .before .args in
+    let r = f .run-from .ensures in
+    let x = stateOf (withLast (f .run-from .result .last) (l .load)) (f .run-from .last .1 .0) in
+    sym (l .inv .2 ∙ r .3 _ _ _ ∙ walk-ends (s .capacity) (length (now (s .d))) (s .p1) x (f .run-from .result .turns) (f .run-from .result .at) (now (s .d)) (c .if1 .taken))
 
 grouping-at-requires : tie.Need-grouping-at-requires Inv-loop μ-loop
 grouping-at-requires c κs =
-    let l = c .before .before .before .loop in
-    (l .inv .0 .kept, l .inv .0 .shut (rw length-drop (omega arith)), omega arith)
+    let r = c .before .before .before .before .run-from .ensures in
+    (r .2 .kept, r .2 .shut (rw length-drop (omega arith)), omega arith)
 
 enum-known-course : tie.Need-enum-known-course Inv-loop μ-loop
 enum-known-course c = search needs
@@ -54,17 +62,20 @@ sub-turns-2 : tie.Need-sub-turns-2 Inv-loop μ-loop
 sub-turns-2 c = search needs
 
 loop-less : tie.Need-loop-less Inv-loop μ-loop
-loop-less c = search needs
+loop-less c = let r = c .before .before .before .before .before .before .before .before .before .before .before .run-from .ensures in omega (arith, r .0, r .1)
 
 loop-again : tie.Need-loop-again Inv-loop μ-loop
 loop-again c =
+    let f = c .before .before .before .before .before .before .before .before .before .before .before in
+    let l = f .before .before .before .loop in
+    let s = f .before .before .before .before .before .before .args in
+    let r = f .run-from .ensures in
+    let x = stateOf (withLast (f .run-from .result .last) (l .load)) (f .run-from .last .1 .0) in
     let g = c .before .before .before .before .before .before in
-    let s = g .before .before .before .before .before .before .before .args in
-    let l = g .before .before .before .before .loop in
     let t = stateOf (g .grouping-at .result .load) (g .grouping-at .last .1 .0) in
-    let e = sym (ap (λ (x : Course). coursed x (now (s .d)) t) (c .before .course .given .1)) ∙ g .grouping-at .ensures in
-    let w = walk-goes (s .capacity) (length (now (s .d))) (s .p1) (stateOf (l .load) (l .area)) (l .turns) (l .i) (c .before .course .given .0 .0) (now (s .d)) t (omega arith) (omega arith) (l .inv .0) e in
-    (w .0, g .grouping-at .kept .1 .0 ∙ l .inv .1, l .inv .2 ∙ w .1)
+    let e = sym (ap (λ (y : Course). coursed y (now (s .d)) t) (c .before .course .given .1)) ∙ g .grouping-at .ensures in
+    let w = walk-goes (s .capacity) (length (now (s .d))) (s .p1) x (f .run-from .result .turns) (f .run-from .result .at) (c .before .course .given .0 .0) (now (s .d)) t (omega (arith, r .0)) (omega arith) (r .2) e in
+    (w .0, g .grouping-at .kept .1 .0 ∙ f .run-from .kept .1 .0 ∙ l .inv .1, l .inv .2 ∙ r .3 _ _ _ ∙ w .1)
 
 enum-known-course-2 : tie.Need-enum-known-course-2 Inv-loop μ-loop
 enum-known-course-2 c = search needs
@@ -74,12 +85,15 @@ same-length-2 c = search needs
 
 returns-2 : tie.Need-returns-2 Inv-loop μ-loop
 returns-2 c =
+    let f = c .before .before .before .before .before .before .before .before .before .before .before in
+    let l = f .before .before .before .loop in
+    let s = f .before .before .before .before .before .before .args in
+    let r = f .run-from .ensures in
+    let x = stateOf (withLast (f .run-from .result .last) (l .load)) (f .run-from .last .1 .0) in
     let g = c .before .before .before .before .before .before in
-    let s = g .before .before .before .before .before .before .before .args in
-    let l = g .before .before .before .before .loop in
     let t = stateOf (g .grouping-at .result .load) (g .grouping-at .last .1 .0) in
-    let e = sym (ap (λ (x : Course). coursed x (now (s .d)) t) (c .before .course2 .given .1)) ∙ g .grouping-at .ensures in
-    sym (l .inv .2 ∙ walk-turn (s .capacity) (length (now (s .d))) (s .p1) (stateOf (l .load) (l .area)) (l .turns) (l .i) (now (s .d)) (omega arith) (omega arith) ∙ rw (← e))
+    let e = sym (ap (λ (y : Course). coursed y (now (s .d)) t) (c .before .course2 .given .1)) ∙ g .grouping-at .ensures in
+    sym (l .inv .2 ∙ r .3 _ _ _ ∙ walk-turn (s .capacity) (length (now (s .d))) (s .p1) x (f .run-from .result .turns) (f .run-from .result .at) (now (s .d)) (omega (arith, r .0)) (omega arith) ∙ rw (← e))
 
 enum-known-course-3 : tie.Need-enum-known-course-3 Inv-loop μ-loop
 enum-known-course-3 c = search needs
@@ -89,12 +103,15 @@ same-length-3 c = search needs
 
 returns-3 : tie.Need-returns-3 Inv-loop μ-loop
 returns-3 c =
+    let f = c .before .before .before .before .before .before .before .before .before .before .before in
+    let l = f .before .before .before .loop in
+    let s = f .before .before .before .before .before .before .args in
+    let r = f .run-from .ensures in
+    let x = stateOf (withLast (f .run-from .result .last) (l .load)) (f .run-from .last .1 .0) in
     let g = c .before .before .before .before .before .before in
-    let s = g .before .before .before .before .before .before .before .args in
-    let l = g .before .before .before .before .loop in
     let t = stateOf (g .grouping-at .result .load) (g .grouping-at .last .1 .0) in
-    let e = sym (ap (λ (x : Course). coursed x (now (s .d)) t) (c .before .course3 .given .1)) ∙ g .grouping-at .ensures in
-    sym (l .inv .2 ∙ walk-turn (s .capacity) (length (now (s .d))) (s .p1) (stateOf (l .load) (l .area)) (l .turns) (l .i) (now (s .d)) (omega arith) (omega arith) ∙ rw (← e))
+    let e = sym (ap (λ (y : Course). coursed y (now (s .d)) t) (c .before .course3 .given .1)) ∙ g .grouping-at .ensures in
+    sym (l .inv .2 ∙ r .3 _ _ _ ∙ walk-turn (s .capacity) (length (now (s .d))) (s .p1) x (f .run-from .result .turns) (f .run-from .result .at) (now (s .d)) (omega (arith, r .0)) (omega arith) ∙ rw (← e))
 
 same-length-4 : tie.Need-same-length-4 Inv-loop μ-loop
 same-length-4 c = search needs
@@ -113,6 +130,7 @@ walked-spec =
     μ-loop
     sub-turns
     loop-holds
+    run-from-requires
     same-length
     returns
     grouping-at-requires

@@ -6,7 +6,7 @@ use native.Mathlib.Numerals.{add-one}
 use lib.ListN.{length, take, drop, set, getD, length-set, length-take, length-drop, length-append}
 use denote.Ref.{now}
 use borrow.Author.Needs.{needs}
-use Rattle.load.specs.Steps.{endedAs}
+use Rattle.records.specs.Steps.{endedAs}
 use Rattle.feed.specs.Steps.{stateOf}
 use Rattle.feed.specs.declared.Course.{Course}
 use Rattle.load.proofs.walked_on.Statement.{statement}

@@ -3,7 +3,7 @@ use mathlib.Core.Path.{ap, sym, _∙_}
 use denote.Ref.{now}
 use borrow.Author.Needs.{needs}
 use Rattle.writer.proofs.Complete.{walking-start, walked-so}
-use Rattle.load.specs.Steps.{endedAs}
+use Rattle.records.specs.Steps.{endedAs}
 use Rattle.feed.specs.Steps.{stateOf}
 use Rattle.feed.specs.declared.Course.{Course}
 use Rattle.writer.proofs.passes_behind.Statement.{statement}

@@ -12,7 +12,7 @@ use Rattle.model.specs.Command.{walk}
 use Rattle.soundness.specs.Keeps.{Onward, GoesOn}
 use Rattle.soundness.proofs.Keeps.{grouping-goes}
 use Rattle.feed.specs.Steps.{activeLife}
-use Rattle.load.specs.Steps.{Walking}
+use Rattle.records.specs.Steps.{Walking}
 
 module _ (capacity n p1 : ℕ) (s : State) where
   pub walk-ends : (turns i : ℕ) (d : List ℕ) → length d ≤ i → walk turns capacity n p1 (drop i d) s ≡ went 0 s

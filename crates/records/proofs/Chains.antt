@@ -32,7 +32,7 @@ use Rattle.soundness.specs.Keeps.{Ends}
 use Rattle.feed.specs.declared.Course.{Course}
 use Rattle.feed.specs.declared.Course.the-variants.{Went, Asked, Failed}
 use Rattle.feed.specs.Steps.{coursed}
-use Rattle.load.specs.Steps.{endedAs, fromF, fromE, fromD, fromC, fromB}
+use Rattle.records.specs.Steps.{endedAs, fromF, fromE, fromD, fromC, fromB}
 
 module _ (capacity row room : ℕ) (h : Head) (bytes : List ℕ) (s : State) where
   pub f-refuses : lengthOk row room (h .len) ≡ false → fromF capacity row room h bytes s ≡ failed 0x6700 s

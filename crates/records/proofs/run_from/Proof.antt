@@ -1,0 +1,54 @@
+use Prim.Native.Nat.{ℕ, suc, _+_, _*_, _-_, _≤_, _<_, _/_, _%_}
+use mathlib.Core.Path.{_≡_, refl, ap, sym, _∙_}
+use mathlib.Core.List.{List, [], _∷_, _++_}
+use native.Mathlib.Omega.{arith}
+use native.Mathlib.Numerals.{add-one}
+use lib.ListN.{length, take, drop, set, getD, length-set, length-take, length-drop, length-append}
+use denote.Ref.{now}
+use borrow.Author.Needs.{needs}
+use Rattle.records.proofs.run_from.Statement.{statement}
+use Rattle.records.proofs.run_from.Tie as tie
+use Rattle.records.proofs.run_from.Reads as reads
+use Rattle.records.proofs.run_from.Lts as lts
+use Rattle.records.proofs.run_on.Reads as run-on-reads
+use Rattle.rows.proofs.is_taken.Reads as is-taken-reads
+use Rattle.rows.proofs.missing_before.Reads as missing-before-reads
+
+returns : tie.Need-returns
+returns c = search needs
+
+missing-before-requires : tie.Need-missing-before-requires
+missing-before-requires c κs = search needs
+
+returns-2 : tie.Need-returns-2
+returns-2 c = search needs
+
+is-taken-requires : tie.Need-is-taken-requires
+is-taken-requires c κs = search needs
+
+run-on-requires : tie.Need-run-on-requires
+run-on-requires c κs =
+    let s = c .before .before .before .before .before .before .before .before .before in
+    (s .pre .0, record { personal = c .before .before .before .before .before .if1 .left; repeated = sym (c .before .before .is-taken .ensures) ∙ c .before .if3 .taken; ready = sym (c .before .before .before .before .missing-before .ensures) ∙ c .before .before .before .if2 .left }, s .pre .1)
+
+same-length : tie.Need-same-length
+same-length c = search needs
+
+returns-3 : tie.Need-returns-3
+returns-3 c = search needs
+
+returns-4 : tie.Need-returns-4
+returns-4 c = search needs
+
+pub run-from-spec : {M : Type 1} → statement M
+run-from-spec =
+    tie.close
+    (tie.spec
+    returns
+    missing-before-requires
+    returns-2
+    is-taken-requires
+    run-on-requires
+    same-length
+    returns-3
+    returns-4)
