@@ -1,3 +1,1 @@
-pub mod Sure
 pub mod Replies
-pub mod Tellings

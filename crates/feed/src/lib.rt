@@ -2,77 +2,22 @@
 use model::Descriptor;
 use model::Loading;
 use model::Open;
-use model::Spot;
 use model::Verdict;
+use steps::Course;
+use steps::Step;
+use steps::Taken;
 ghost use mathlib.Core.Path.{_≡_};
-ghost use mathlib.Core.Bool.{true};
-ghost use mathlib.Core.List.{List, _∷_, []};
-ghost use Prim.Native.Nat.{ℕ, _+_, _-_, _*_, _≤_, _<_, min};
-ghost use lib.ListN.{length, take, drop};
+ghost use mathlib.Core.List.{List, []};
+ghost use Prim.Native.Nat.{ℕ, _+_, _-_, _≤_, _<_};
+ghost use lib.ListN.{length, drop};
 ghost use Rattle.lists.specs.Over.{overwrite};
 ghost use Rattle.model.specs.declared.Open.the-variants.{Shut, Table, Record};
-ghost use Rattle.model.specs.Table.{tablePasses};
-ghost use Rattle.model.specs.Loads.{fileList, withTaken, withOpen, withFile};
-ghost use Rattle.model.specs.Rules.{tagSpot, tableDone, recordDone, laid, tableByte, recordBytes, feeding, fed};
-ghost use Rattle.soundness.specs.Opened.{RecordOpen};
+ghost use Rattle.model.specs.Loads.{withFile};
+ghost use Rattle.model.specs.Rules.{tableDone, tableByte, feeding, fed};
 ghost use Rattle.soundness.proofs.Feeding.{Fed};
-ghost use Rattle.feed.specs.Steps.{stateOf, stepped, took, TakenTo, Sure};
-
-// How a step of the walk ends: it goes on from a place of the data, a query was asked, or it failed by a word.
-pub enum Course {
-    Went(usize),
-    Asked(u16),
-    Failed(u16),
-}
-
-pub struct Step {
-    pub course: Course,
-    pub load: Loading,
-}
-
-// A value's bytes taken, or refused by a word, and the loading part.
-pub struct Taken {
-    pub verdict: Verdict,
-    pub load: Loading,
-}
-
-const DESCRIPTOR_SIZE: usize = 18;
+ghost use Rattle.steps.specs.Steps.{stateOf, stepped, took, TakenTo, Sure};
 
 const TABLE_ROW: usize = 5;
-
-const RECORD_ROW: usize = 11;
-
-// The loading part with another open value: the one place that makes it anew.
-pub fn with_open(l: Loading, o: Open, held: [u8; 18]) -> Loading
-    ensures { λ r. ⌜ r ≡ withOpen o held l ⌝ }
-{
-    let files = l.files;
-    let serial = l.serial;
-    let startup = l.startup;
-    let secrets = l.secrets;
-    Loading {
-        internal: l.internal,
-        rows: l.rows,
-        last: l.last,
-        pending: o,
-        held: held,
-        files: files,
-        count: l.count,
-        serial: serial,
-        startup: startup,
-        counter: l.counter,
-        secrets: secrets,
-    }
-}
-
-pub fn with_taken(l: Loading, r: usize) -> Loading
-    requires { ⌜ (1 ≤ r) × (r ≤ 11) ⌝ }
-    ensures { λ x. ⌜ x ≡ withTaken r l ⌝ }
-{
-    let mut next = l;
-    next.rows = rows::with_row(l.rows, r);
-    next
-}
 
 fn with_file(l: Loading, d: Descriptor) -> Loading
     requires { ⌜ l .count < 31 ⌝ }
@@ -85,87 +30,6 @@ fn with_file(l: Loading, d: Descriptor) -> Loading
     next
 }
 
-// The smaller of two counts.
-pub fn least(a: usize, b: usize) -> usize
-    ensures { λ r. ⌜ r ≡ min a b ⌝ }
-{
-    if a <= b {
-        return a;
-    }
-    b
-}
-
-// The place of the record that a tag names.
-pub fn spot_at(l: Loading, tag: u16) -> Spot
-    requires { ⌜ l .count ≤ 31 ⌝ }
-    ensures { λ r. ⌜ r ≡ tagSpot (fileList l) tag ⌝ }
-{
-    let files = l.files;
-    let sfi = (tag / 256) as u8;
-    let nn = (tag % 256) as u8;
-    table::spot_of(files, l.count, sfi, nn)
-}
-
-// A record's value that misses so much: taken whole, or still open.
-fn record_done(l: Loading, tag: u16, written: usize, missing: usize) -> Loading
-    ensures { λ r. ⌜ ((a : List ℕ) → recordDone tag written missing (stateOf l a) ≡ stateOf r a) ⌝ }
-{
-    let held = l.held;
-    if missing == 0 {
-        let shut = with_open(l, Open::Shut, held);
-        let mut next = with_taken(shut, RECORD_ROW);
-        next.last = tag;
-        return next;
-    }
-    with_open(
-        l,
-        Open::Record {
-            tag: tag,
-            written: written,
-            missing: missing,
-        },
-        held,
-    )
-}
-
-// Bytes over the part of the area where a record lies, from its current place on.
-fn lay_record(l: Loading, area: &mut [u8], tag: u16, written: usize, bytes: &[u8])
-    requires { ⌜ (length (now area) ≡ 4096) × (l .count ≤ 31) × RecordOpen l tag written (length (now bytes)) ⌝ }
-    ensures { λ _. ⌜ now (area .exit) ≡ laid (tagSpot (fileList l) tag) written (now (bytes .entry)) (now (area .entry)) ⌝ }
-{
-    let spot = spot_at(l, tag);
-    match spot {
-        Spot::Nowhere => {}
-        Spot::At { base, size: _ } => {
-            let at = base + written;
-            slices::lay(&mut area[at..], bytes);
-        }
-    }
-}
-
-// An open record's bytes, written as they come.
-pub fn record_fed(
-    l: Loading,
-    area: &mut [u8],
-    d: &[u8],
-    at: usize,
-    tag: u16,
-    written: usize,
-    missing: usize,
-) -> Step
-    requires { ⌜ (at ≤ length (now d)) × (length (now area) ≡ 4096) × (l .count ≤ 31) × RecordOpen l tag written missing ⌝ }
-    ensures { λ r. ⌜ stepped r (now (d .entry)) (now (area .exit)) ≡ feeding (Record tag written missing) (drop at (now (d .entry))) (stateOf l (now (area .entry))) ⌝ }
-{
-    let n = least(missing, d.len() - at);
-    let end = at + n;
-    lay_record(l, area, tag, written, &d[at..end]);
-    let next = record_done(l, tag, written + n, missing - n);
-    Step {
-        course: Course::Went(end),
-        load: next,
-    }
-}
-
 // The last byte of a descriptor: it is judged, and stands in the table or not.
 fn last_byte(l: Loading, missing: usize, b: u8) -> Taken
     requires { ⌜ (l .count ≤ 31) × (length (l .files) ≡ 31) ⌝ }
@@ -173,7 +37,7 @@ fn last_byte(l: Loading, missing: usize, b: u8) -> Taken
 {
     let mut bytes = l.held;
     bytes[17] = b;
-    let d = table::descriptor_of(bytes);
+    let d = descriptor::descriptor_of(bytes);
     let files = l.files;
     let verdict = table::admit(d, files, l.count);
     match verdict {
@@ -197,10 +61,10 @@ fn table_done(l: Loading, missing: usize) -> Loading
 {
     let none = [0u8; 18];
     if missing == 0 {
-        let shut = with_open(l, Open::Shut, none);
-        return with_taken(shut, TABLE_ROW);
+        let shut = steps::with_open(l, Open::Shut, none);
+        return steps::with_taken(shut, TABLE_ROW);
     }
-    with_open(
+    steps::with_open(
         l,
         Open::Table {
             held: 0,
@@ -230,7 +94,7 @@ fn descriptor_fed(l: Loading, d: &[u8], at: usize, end: usize, held: usize, miss
     let room = 17 - held;
     if left <= room {
         let bytes = stashed(before, held, &d[at..end]);
-        let more = with_open(
+        let more = steps::with_open(
             l,
             Open::Table {
                 held: held + left,
@@ -245,7 +109,7 @@ fn descriptor_fed(l: Loading, d: &[u8], at: usize, end: usize, held: usize, miss
     }
     let last = at + room;
     let bytes = stashed(before, held, &d[at..last]);
-    let most = with_open(
+    let most = steps::with_open(
         l,
         Open::Table {
             held: 17,
@@ -299,7 +163,7 @@ pub fn table_fed(l: Loading, d: &[u8], at: usize, missing: usize) -> Step
     requires { ⌜ (at ≤ length (now d)) × Fed 0 missing (stateOf l []) ⌝ }
     ensures { λ r. ⌜ ((a : List ℕ) → stepped r (now (d .entry)) a ≡ feeding (Table 0 missing) (drop at (now (d .entry))) (stateOf l a)) ⌝ }
 {
-    let end = at + least(missing, d.len() - at);
+    let end = at + slices::least(missing, d.len() - at);
     let mut load = l;
     let mut i = at;
     let mut rest = missing;
@@ -343,6 +207,6 @@ pub fn fed_first(l: Loading, area: &mut [u8], d: &[u8]) -> Step
             tag,
             written,
             missing,
-        } => record_fed(l, area, d, 0, tag, written, missing),
+        } => steps::record_fed(l, area, d, 0, tag, written, missing),
     }
 }

@@ -27,7 +27,7 @@ fn put_value(out: &mut [u8], at: usize, value: &[u8]) -> usize
         out[at] = DASH;
         return at + 1;
     }
-    lines::put_hex(out, at, value)
+    digits::put_hex(out, at, value)
 }
 
 // The line of a grouping. The place behind it.
@@ -36,7 +36,7 @@ fn put_grouping(out: &mut [u8], at: usize, tag: u16, value: &[u8]) -> usize
     ensures { λ r. ⌜ (r ≤ length (now (out .entry))) × (length (now (out .exit)) ≡ length (now (out .entry))) ⌝ }
 {
     let number = [(tag / 256) as u8, (tag % 256) as u8];
-    lines::put_hex(out, at, &number);
+    digits::put_hex(out, at, &number);
     out[at + 4] = BLANK;
     let end = put_value(out, at + 5, value);
     out[end] = LINE_FEED;
@@ -78,14 +78,14 @@ fn print_window(order: &[u8], out: &mut [u8], start: usize) -> Stop
     let mut at: usize = 0;
     let mut filled = start;
     while at < order.len() {
-        let found = order::found_at(order, at);
+        let found = reader::found_at(order, at);
         if found.ending != 0 {
             return Stop {
                 at: at,
                 filled: filled,
             };
         }
-        let value = order::value_of(order, found);
+        let value = reader::value_of(order, found);
         filled = print_grouping(out, filled, found.tag, value);
         at = found.next;
     }

@@ -1,34 +1,18 @@
-// The events of the life cycle: INSTALL, SELECT, LOCK, UNLOCK, DESELECT, RESET, another command. They change the
-// card's life and nothing else of it; INSTALL clears the file area, SELECT writes the answer.
+// LOCK, UNLOCK, DESELECT, RESET and another command: they change the card's life and nothing else of it.
 use model::Card;
 use model::Life;
 ghost use mathlib.Core.Path.{_≡_};
-ghost use mathlib.Core.List.{List, _∷_, []};
-ghost use Prim.Native.Nat.{ℕ, _+_, _≤_, _<_};
-ghost use lib.ListN.{length, take, drop};
-ghost use Rattle.lists.specs.Bytes.{same};
-ghost use Rattle.lists.specs.Over.{overwrite};
-ghost use Rattle.model.specs.Events.{says, withLife, withGp, isName, nameOf, nameFci, fullFci, namesIn, nameLength, installForm, selectableForm, installing, makingSelectable, install, invalidated, select, lock, unlock, deselect, foreign};
-ghost use Rattle.life.specs.Places.{placesIn, namedAs};
-ghost use mathlib.Core.Bool.{true};
-ghost use Rattle.life.specs.Answers.{Answers, front};
+ghost use mathlib.Core.List.{List};
+ghost use Prim.Native.Nat.{ℕ, _+_, _<_};
+ghost use Rattle.model.specs.Events.{says, withLife, lock, unlock, deselect, foreign};
+
+const LOCKED: u8 = 0x80;
 
 // The word of an event, and the life after it.
 pub struct Lived {
     pub word: u16,
     pub life: Life,
 }
-
-// The same with the number of answer bytes.
-pub struct Replied {
-    pub word: u16,
-    pub answered: usize,
-    pub life: Life,
-}
-
-const LOCKED: u8 = 0x80;
-
-const NAME_ROOM: usize = 16;
 
 // LOCK: absent, locked, else the top bit set, not selected.
 pub fn locked_by(c: Card) -> Lived
@@ -51,7 +35,7 @@ pub fn locked_by(c: Card) -> Lived
     next.gp = life.gp + LOCKED;
     next.selected = false;
     Lived {
-        word: 0x9000,
+        word: 0x9000, // locked
         life: next,
     }
 }
@@ -76,7 +60,7 @@ pub fn unlocked_by(c: Card) -> Lived
     let mut next = life;
     next.gp = life.gp - LOCKED;
     Lived {
-        word: 0x9000,
+        word: 0x9000, // unlocked
         life: next,
     }
 }
@@ -106,304 +90,6 @@ pub fn answered_foreign(c: Card) -> Lived
     }
     Lived {
         word: 0x6985, // not selected
-        life: life,
-    }
-}
-
-// Where INSTALL's data has what: the lengths of the three names, the place of the third, that of the tail.
-struct Places {
-    pub first: usize,
-    pub second: usize,
-    pub third: usize,
-    pub name: usize,
-    pub tail: usize,
-}
-
-fn places_in(d: &[u8]) -> Places
-    ensures { λ r. ⌜ (r ≡ placesIn (now (d .entry))) × (r .tail ≤ 768) × (r .name ≤ r .tail) ⌝ }
-{
-    let first = slices::wide(slices::byte_at(d, 0));
-    let second = slices::wide(slices::byte_at(d, 1 + first));
-    let third = slices::wide(slices::byte_at(d, 2 + first + second));
-    let name = 3 + first + second;
-    Places {
-        first: first,
-        second: second,
-        third: third,
-        name: name,
-        tail: name + third,
-    }
-}
-
-fn name_length(n: usize) -> bool
-    ensures { λ r. ⌜ r ≡ nameLength n ⌝ }
-{
-    if n < 5 {
-        return false;
-    }
-    n <= NAME_ROOM
-}
-
-// What follows the names is exactly the fixed bytes.
-fn tail_is(d: &[u8], at: usize, fixed: &[u8]) -> bool
-    requires { ⌜ 1 ≤ length (now fixed) ⌝ }
-    ensures { λ r. ⌜ r ≡ same (drop at (now (d .entry))) (now (fixed .entry)) ⌝ }
-{
-    if d.len() < at {
-        return false;
-    }
-    slices::same_bytes(&d[at..], fixed)
-}
-
-// '04' and '0C': three names, and their tail.
-fn is_install_form(d: &[u8]) -> bool
-    ensures { λ r. ⌜ r ≡ installForm (namesIn (now (d .entry))) ⌝ }
-{
-    let p = places_in(d);
-    if name_length(p.first) {
-        if name_length(p.second) {
-            if name_length(p.third) {
-                return tail_is(d, p.tail, b"\x01\x00\x02\xC9\x00\x00");
-            }
-        }
-    }
-    false
-}
-
-// '08': two empty names, the instance's, and their tail.
-fn is_selectable_form(d: &[u8]) -> bool
-    ensures { λ r. ⌜ r ≡ selectableForm (namesIn (now (d .entry))) ⌝ }
-{
-    let p = places_in(d);
-    if p.first != 0 {
-        return false;
-    }
-    if p.second != 0 {
-        return false;
-    }
-    if name_length(p.third) {
-        return tail_is(d, p.tail, b"\x01\x00\x00\x00");
-    }
-    false
-}
-
-// All bytes of the card's name, and no other.
-pub fn is_named(life: Life, n: &[u8]) -> bool
-    requires { ⌜ life .namelen ≤ 16 ⌝ }
-    ensures { λ r. ⌜ r ≡ same (now (n .entry)) (take (life .namelen) (life .name)) ⌝ }
-{
-    let name = life.name;
-    let len = life.namelen;
-    slices::same_bytes(n, &name[..len])
-}
-
-// INSTALL '04' and '0C': the instance name kept, `gp` '03' or '07', the area filled with zeros.
-fn installed(c: Card, area: &mut [u8], p1: u8, d: &[u8]) -> Lived
-    requires { ⌜ length (now area) ≡ 4096 ⌝ }
-    ensures { λ r. ⌜ installing p1 (namesIn (now (d .entry))) c (now (area .entry)) ≡ says (r .word) (withLife (r .life) c) (now (area .exit)) ⌝ }
-{
-    let life = c.life;
-    if is_install_form(d) {
-        if life.gp == 0x00 {
-            slices::clear(area);
-            return Lived {
-                word: 0x9000,
-                life: named(life, p1, d),
-            };
-        }
-        return Lived {
-            word: 0x6985, // present
-            life: life,
-        };
-    }
-    Lived {
-        word: 0x6A80, // not the form of '04' and '0C'
-        life: life,
-    }
-}
-
-// The life that INSTALL gives: the name from its data, with zeros behind it.
-fn named(life: Life, p1: u8, d: &[u8]) -> Life
-    requires { ⌜ installForm (namesIn (now d)) ≡ true ⌝ }
-    ensures { λ r. ⌜ r ≡ namedAs life p1 (namesIn (now (d .entry))) ⌝ }
-{
-    let p = places_in(d);
-    let from = p.name;
-    let to = p.tail;
-    let name = slices::padded16(&d[from..to]);
-    if p1 == 0x04 {
-        return Life {
-            gp: 0x03,
-            selected: life.selected,
-            name: name,
-            namelen: p.third,
-        };
-    }
-    Life {
-        gp: 0x07,
-        selected: life.selected,
-        name: name,
-        namelen: p.third,
-    }
-}
-
-// INSTALL '08': absent or another name, not '03', then '07'.
-fn made_selectable(c: Card, d: &[u8]) -> Lived
-    requires { ⌜ c .life .namelen ≤ 16 ⌝ }
-    ensures { λ r. ⌜ ((a : List ℕ) → makingSelectable (namesIn (now (d .entry))) c a ≡ says (r .word) (withLife (r .life) c) a) ⌝ }
-{
-    let life = c.life;
-    if is_selectable_form(d) {
-        if life.gp == 0x00 {
-            return Lived {
-                word: 0x6A88, // nothing installed
-                life: life,
-            };
-        }
-        let p = places_in(d);
-        let from = p.name;
-        let to = p.tail;
-        if is_named(life, &d[from..to]) {
-            if life.gp == 0x03 {
-                let mut next = life;
-                next.gp = 0x07;
-                return Lived {
-                    word: 0x9000,
-                    life: next,
-                };
-            }
-            return Lived {
-                word: 0x6985, // not '03'
-                life: life,
-            };
-        }
-        return Lived {
-            word: 0x6A88, // another name
-            life: life,
-        };
-    }
-    Lived {
-        word: 0x6A80, // not the form of '08'
-        life: life,
-    }
-}
-
-// INSTALL.
-pub fn installed_by(c: Card, area: &mut [u8], p1: u8, d: &[u8]) -> Lived
-    requires { ⌜ (length (now area) ≡ 4096) × (c .life .namelen ≤ 16) ⌝ }
-    ensures { λ r. ⌜ install p1 (now (d .entry)) c (now (area .entry)) ≡ says (r .word) (withLife (r .life) c) (now (area .exit)) ⌝ }
-{
-    if p1 == 0x08 {
-        return made_selectable(c, d);
-    }
-    if p1 == 0x04 {
-        return installed(c, area, p1, d);
-    }
-    if p1 == 0x0C {
-        return installed(c, area, p1, d);
-    }
-    let life = c.life;
-    Lived {
-        word: 0x6A86,
-        life: life,
-    }
-}
-
-// What both FCIs begin with, at the front of the answer buffer: 6F, a length of n and `more`, 84, n, the name.
-fn lay_front(answer: &mut [u8], life: Life, more: usize)
-    requires { ⌜ (64 ≤ length (now answer)) × (life .namelen ≤ 16) × (more ≤ 26) ⌝ }
-    ensures { λ _. ⌜ now (answer .exit) ≡ overwrite (now (answer .entry)) 0 (front more life) ⌝ }
-{
-    let name = life.name;
-    let n = life.namelen;
-    slices::put_bytes(answer, 0, b"\x6F");
-    slices::put_byte(answer, 1, (n + more) as u8);
-    slices::put_bytes(answer, 2, b"\x84");
-    slices::put_byte(answer, 3, n as u8);
-    slices::put_bytes(answer, 4, &name[..n]);
-}
-
-// The name FCI: how many bytes it has.
-pub fn lay_name_fci(answer: &mut [u8], c: Card) -> usize
-    requires { ⌜ (64 ≤ length (now answer)) × (c .life .namelen ≤ 16) ⌝ }
-    ensures { λ r. ⌜ (r ≡ length (nameFci c)) × (now (answer .exit) ≡ overwrite (now (answer .entry)) 0 (nameFci c)) ⌝ }
-{
-    let life = c.life;
-    lay_front(answer, life, 2);
-    life.namelen + 4
-}
-
-// The full FCI.
-fn lay_full_fci(answer: &mut [u8], c: Card) -> usize
-    requires { ⌜ (64 ≤ length (now answer)) × (c .life .namelen ≤ 16) ⌝ }
-    ensures { λ r. ⌜ (r ≡ length (fullFci c)) × (now (answer .exit) ≡ overwrite (now (answer .entry)) 0 (fullFci c)) ⌝ }
-{
-    let life = c.life;
-    let n = life.namelen;
-    let serial = c.loading.serial;
-    let startup = c.loading.startup;
-    lay_front(answer, life, 26);
-    slices::put_bytes(answer, 4 + n, b"\xA5\x16\xBF\x0C\x13\xC7\x08");
-    slices::put_bytes(answer, 11 + n, &serial);
-    slices::put_bytes(answer, 19 + n, b"\x53\x07");
-    slices::put_bytes(answer, 21 + n, &startup);
-    n + 28
-}
-
-// The DF is invalidated.
-fn is_invalidated(c: Card) -> bool
-    ensures { λ r. ⌜ r ≡ invalidated c ⌝ }
-{
-    if c.loading.count < 1 {
-        return false;
-    }
-    let files = c.loading.files;
-    let df = files[0];
-    df.status == 1
-}
-
-// SELECT, outside '5A'.
-pub fn selected_by(c: Card, answer: &mut [u8], d: &[u8]) -> Replied
-    requires { ⌜ (64 ≤ length (now answer)) × (c .life .namelen ≤ 16) ⌝ }
-    ensures { λ r. ⌜ ((a : List ℕ) → Answers (select (now (d .entry)) c a) (r .word) (r .answered) (withLife (r .life) c) a (now (answer .entry)) (now (answer .exit))) ⌝ }
-{
-    let life = c.life;
-    if life.gp != 0x07 {
-        return Replied {
-            word: 0x6A82, // not '07'
-            answered: 0,
-            life: life,
-        };
-    }
-    if is_named(life, d) {
-        let mut next = life;
-        next.gp = 0x07;
-        next.selected = true;
-        if c.loading.internal == 0xCC {
-            let n = lay_name_fci(answer, c);
-            return Replied {
-                word: 0x9000,
-                answered: n,
-                life: next,
-            };
-        }
-        let n = lay_full_fci(answer, c);
-        if is_invalidated(c) {
-            return Replied {
-                word: 0x6283,
-                answered: n,
-                life: next,
-            };
-        }
-        return Replied {
-            word: 0x9000,
-            answered: n,
-            life: next,
-        };
-    }
-    Replied {
-        word: 0x6A82, // another name
-        answered: 0,
         life: life,
     }
 }

@@ -3,11 +3,10 @@ use rows::count;
 use slices::put_bytes;
 ghost use mathlib.Core.Path.{_≡_};
 ghost use mathlib.Core.List.{[], _∷_, _++_};
-ghost use Prim.Native.Nat.{_+_, _*_, _≤_, _<_, min};
+ghost use Prim.Native.Nat.{_+_, _≤_, _<_, min};
 ghost use lib.ListN.{length};
 ghost use Rattle.lists.specs.Over.{overwrite};
-ghost use Rattle.model.specs.Lines.{lineWith, endOf, five, two, hex2, hex4, hexDigit, blank};
-ghost use Rattle.lines.specs.Trace.{hexOf, widthOf, lastDigits, decimalOf};
+ghost use Rattle.model.specs.Lines.{lineWith, endOf, five, two, hex2, hex4, blank};
 
 pub const LINE_SIZE: usize = 26;
 
@@ -16,17 +15,6 @@ pub const END_SIZE: usize = 10;
 const BLANK: u8 = 0x20;
 
 const LINE_FEED: u8 = 0x0A;
-
-// A hexadecimal digit in capitals.
-fn hex_digit(d: u8) -> u8
-    requires { ⌜ d < 16 ⌝ }
-    ensures { λ r. ⌜ r ≡ hexDigit d ⌝ }
-{
-    if d < 10 {
-        return 0x30 + d;
-    }
-    0x37 + d
-}
 
 // A kind byte as it is printed.
 fn capped(kind: u8) -> u8
@@ -38,50 +26,16 @@ fn capped(kind: u8) -> u8
     kind
 }
 
-fn put_two(out: &mut [u8], at: usize, n: u32)
-    requires { ⌜ at + 2 ≤ length (now out) ⌝ }
-    ensures { λ _. ⌜ now (out .exit) ≡ overwrite (now (out .entry)) at (two n) ⌝ }
-{
-    out[at] = 0x30 + (n / 10 % 10) as u8;
-    out[at + 1] = 0x30 + (n % 10) as u8;
-}
-
-fn put_five(out: &mut [u8], at: usize, n: u64)
-    requires { ⌜ at + 5 ≤ length (now out) ⌝ }
-    ensures { λ _. ⌜ now (out .exit) ≡ overwrite (now (out .entry)) at (five n) ⌝ }
-{
-    out[at] = 0x30 + (n / 10000 % 10) as u8;
-    out[at + 1] = 0x30 + (n / 1000 % 10) as u8;
-    out[at + 2] = 0x30 + (n / 100 % 10) as u8;
-    put_two(out, at + 3, (n % 100) as u32);
-}
-
-fn put_hex2(out: &mut [u8], at: usize, b: u8)
-    requires { ⌜ at + 2 ≤ length (now out) ⌝ }
-    ensures { λ _. ⌜ now (out .exit) ≡ overwrite (now (out .entry)) at (hex2 b) ⌝ }
-{
-    out[at] = hex_digit(b / 16 % 16);
-    out[at + 1] = hex_digit(b % 16);
-}
-
-fn put_hex4(out: &mut [u8], at: usize, w: u16)
-    requires { ⌜ at + 4 ≤ length (now out) ⌝ }
-    ensures { λ _. ⌜ now (out .exit) ≡ overwrite (now (out .entry)) at (hex4 w) ⌝ }
-{
-    put_hex2(out, at, (w / 256) as u8);
-    put_hex2(out, at + 2, (w % 256) as u8);
-}
-
 // Event number, kind and refusal number, each with its blank.
 fn put_counts(out: &mut [u8], at: usize, n: u64, kind: u8, number: u8)
     requires { ⌜ at + 12 ≤ length (now out) ⌝ }
     ensures { λ _. ⌜ now (out .exit) ≡ overwrite (now (out .entry)) at (five n ++ blank ∷ two kind ++ blank ∷ two number ++ blank ∷ []) ⌝ }
 {
-    put_five(out, at, n);
+    digits::put_five(out, at, n);
     out[at + 5] = BLANK;
-    put_two(out, at + 6, kind as u32);
+    digits::put_two(out, at + 6, kind as u32);
     out[at + 8] = BLANK;
-    put_two(out, at + 9, number as u32);
+    digits::put_two(out, at + 9, number as u32);
     out[at + 11] = BLANK;
 }
 
@@ -90,11 +44,11 @@ fn put_states(out: &mut [u8], at: usize, word: u16, gp: u8, internal: u8)
     requires { ⌜ at + 11 ≤ length (now out) ⌝ }
     ensures { λ _. ⌜ now (out .exit) ≡ overwrite (now (out .entry)) at (hex4 word ++ blank ∷ hex2 gp ++ blank ∷ hex2 internal ++ blank ∷ []) ⌝ }
 {
-    put_hex4(out, at, word);
+    digits::put_hex4(out, at, word);
     out[at + 4] = BLANK;
-    put_hex2(out, at + 5, gp);
+    digits::put_hex2(out, at + 5, gp);
     out[at + 7] = BLANK;
-    put_hex2(out, at + 8, internal);
+    digits::put_hex2(out, at + 8, internal);
     out[at + 10] = BLANK;
 }
 
@@ -115,7 +69,7 @@ pub fn put_line(
 {
     put_counts(out, at, n, capped(kind), number);
     put_states(out, at + 12, word, gp, internal);
-    put_two(out, at + 23, count(rows));
+    digits::put_two(out, at + 23, count(rows));
     out[at + 25] = LINE_FEED;
 }
 
@@ -125,56 +79,6 @@ pub fn put_end(out: &mut [u8], at: usize, n: u64)
     ensures { λ _. ⌜ now (out .exit) ≡ overwrite (now (out .entry)) at (endOf n) ⌝ }
 {
     put_bytes(out, at, b"END ");
-    put_five(out, at + 4, n);
+    digits::put_five(out, at + 4, n);
     out[at + 9] = LINE_FEED;
-}
-
-// Bytes in hexadecimal, end to end. The place behind them.
-pub fn put_hex(out: &mut [u8], at: usize, bytes: &[u8]) -> usize
-    requires { ⌜ at + 2 * length (now bytes) ≤ length (now out) ⌝ }
-    ensures { λ r. ⌜ (r ≡ at + 2 * length (now (bytes .entry))) × (length (now (out .exit)) ≡ length (now (out .entry))) × (now (out .exit) ≡ overwrite (now (out .entry)) at (hexOf (now (bytes .entry)))) ⌝ }
-{
-    let mut i: usize = 0;
-    while i < bytes.len() {
-        put_hex2(out, at + 2 * i, bytes[i]);
-        i += 1;
-    }
-    at + 2 * i
-}
-
-// How many decimal digits a number has.
-fn width(n: u64) -> usize
-    ensures { λ r. ⌜ (r ≡ widthOf n) × (1 ≤ r) × (r ≤ 20) ⌝ }
-{
-    let mut rest = n;
-    let mut w: usize = 1;
-    while 10 <= rest {
-        rest = rest / 10;
-        w += 1;
-    }
-    w
-}
-
-// The last w decimal digits, from the last one to the front.
-fn put_digits(out: &mut [u8], at: usize, n: u64, w: usize)
-    requires { ⌜ at + w ≤ length (now out) ⌝ }
-    ensures { λ _. ⌜ now (out .exit) ≡ overwrite (now (out .entry)) at (lastDigits w n) ⌝ }
-{
-    let mut rest = n;
-    let mut i = w;
-    while 0 < i {
-        i -= 1;
-        out[at + i] = 0x30 + (rest % 10) as u8;
-        rest = rest / 10;
-    }
-}
-
-// A number in decimal, without leading zeros. The place behind it.
-pub fn put_number(out: &mut [u8], at: usize, n: u64) -> usize
-    requires { ⌜ at + 20 ≤ length (now out) ⌝ }
-    ensures { λ r. ⌜ (at < r) × (r ≤ at + 20) × (r ≡ at + widthOf n) × (length (now (out .exit)) ≡ length (now (out .entry))) × (now (out .exit) ≡ overwrite (now (out .entry)) at (decimalOf n)) ⌝ }
-{
-    let w = width(n);
-    put_digits(out, at, n, w);
-    at + w
 }

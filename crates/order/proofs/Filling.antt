@@ -14,7 +14,7 @@ use Rattle.order.specs.declared.Place.{Place}
 use Rattle.order.specs.declared.Step.{Step}
 use Rattle.order.specs.Steps.{stepOf}
 use Rattle.order.specs.Cuts.{Fitting, unitsOf, unitsFrom, commandsFrom, Filling, Command}
-use Rattle.order.proofs.Units.{units-none}
+use Rattle.reader.proofs.Units.{units-none}
 use Rattle.order.proofs.Stepping.{Closes, Takes, Stepped, step-stepped}
 
 -- behind the last byte there is no unit

@@ -20,7 +20,7 @@ use Rattle.model.specs.Order.{spannable, single, unitsBy, unitsIn, packed}
 use Rattle.order.specs.declared.Step.{Step}
 use Rattle.order.specs.Steps.{unitStep, groupingStep, headStep, insideStep, stepOf}
 use Rattle.order.specs.Cuts.{Fitting, unitsOf}
-use Rattle.order.proofs.Units.{Within, header-within, units-none, units-at}
+use Rattle.reader.proofs.Units.{Within, header-within, units-none, units-at}
 use Rattle.order.proofs.Packing.{packed-fits, packed-closes, packed-single, fitting-head, fitting-tail, fitting-single}
 
 -- the command closes here: it has something, and the next one begins with the next unit

@@ -1,4 +1,3 @@
 -- An order's reader, and its cutting as code walks it: by steps from a place, command by command.
-pub mod Reads
 pub mod Steps
 pub mod Cuts

@@ -29,9 +29,9 @@ use Rattle.model.specs.Rows.{due}
 use Rattle.model.specs.Header.{headerOf, longForm}
 use Rattle.model.specs.Rules.{Rule, aloneAtStart, bit1, bit8, challenged, ruleA, grouping}
 use Rattle.soundness.specs.Keeps.{Ends}
-use Rattle.feed.specs.declared.Course.{Course}
-use Rattle.feed.specs.declared.Course.the-variants.{Went, Asked, Failed}
-use Rattle.feed.specs.Steps.{coursed}
+use Rattle.steps.specs.declared.Course.{Course}
+use Rattle.steps.specs.declared.Course.the-variants.{Went, Asked, Failed}
+use Rattle.steps.specs.Steps.{coursed}
 use Rattle.records.specs.Steps.{endedAs, fromF, fromE, fromD, fromC, fromB}
 
 module _ (capacity row room : ℕ) (h : Head) (bytes : List ℕ) (s : State) where

@@ -24,7 +24,7 @@ use Rattle.model.specs.Rows.{rowTable, rowAt, rowFrom, rowOf, taken, withRow, m
 use Rattle.model.specs.Loads.{State, fileList, withInternal, withLast, changed}
 use Rattle.model.specs.Rules.{Result, went, isQuery, dueRow, tagSpot, roomOf, lengthOk, recordDone, recordBytes, fed, spanned, grouping}
 use Rattle.model.specs.Command.{walk}
-use Rattle.feed.specs.Steps.{stateOf}
+use Rattle.steps.specs.Steps.{stateOf}
 use Rattle.records.specs.Steps.{fromB, fromC, fromD, fromE, fromF, Walking}
 use Rattle.records.specs.Fits.{followsOn, Placing, Placed, Fitting, FitAt, Repeats}
 use Rattle.records.specs.declared.Fit.{Fit}

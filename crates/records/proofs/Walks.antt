@@ -11,7 +11,7 @@ use Rattle.model.specs.Rules.{Result, went, asked, failed, thence, grouping}
 use Rattle.model.specs.Command.{walk}
 use Rattle.soundness.specs.Keeps.{Onward, GoesOn}
 use Rattle.soundness.proofs.Keeps.{grouping-goes}
-use Rattle.feed.specs.Steps.{activeLife}
+use Rattle.steps.specs.Steps.{activeLife}
 use Rattle.records.specs.Steps.{Walking}
 
 module _ (capacity n p1 : ℕ) (s : State) where

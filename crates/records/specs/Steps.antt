@@ -13,10 +13,10 @@ use Rattle.model.specs.Rows.{due}
 use Rattle.model.specs.Loads.{State, fileList}
 use Rattle.model.specs.Rules.{Result, went, asked, failed, Rule, thence, _>>=_, _>>_, roomOf, ruleB, ruleC, ruleD, ruleE, ruleF, ruleG, ruleH}
 use Rattle.soundness.specs.Keeps.{Onward}
-use Rattle.feed.specs.declared.Course.{Course}
-use Rattle.feed.specs.declared.Course.the-variants.{Went, Asked, Failed}
-use Rattle.feed.specs.declared.Step.{Step}
-use Rattle.feed.specs.Steps.{stateOf, activeLife}
+use Rattle.steps.specs.declared.Course.{Course}
+use Rattle.steps.specs.declared.Course.the-variants.{Went, Asked, Failed}
+use Rattle.steps.specs.declared.Step.{Step}
+use Rattle.steps.specs.Steps.{stateOf, activeLife}
 
 -- a step's answer at a command's end, where no place is left to go on from
 abbrev pub endedAs : Course → State → Result ℕ

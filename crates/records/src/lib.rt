@@ -13,7 +13,7 @@ ghost use lib.ListN.{length, take, drop};
 ghost use Rattle.model.specs.Rows.{taken, missingFrom, rowTable};
 ghost use Rattle.model.specs.Loads.{withLast};
 ghost use Rattle.model.specs.Command.{walk};
-ghost use Rattle.feed.specs.Steps.{stateOf};
+ghost use Rattle.steps.specs.Steps.{stateOf};
 ghost use Rattle.records.specs.Steps.{Walking};
 ghost use Rattle.records.specs.Fits.{followsOn, Placed, FitAt, Repeats};
 
@@ -67,7 +67,7 @@ fn placed(files: [Descriptor; 31], count: usize, h: Head, d: &[u8], start: usize
     let tag = h.tag;
     let sfi = (tag / 256) as u8;
     let nn = (tag % 256) as u8;
-    let spot = table::spot_of(files, count, sfi, nn);
+    let spot = places::spot_of(files, count, sfi, nn);
     match spot {
         Spot::Nowhere => Fit::Not,
         Spot::At { base, size } => {

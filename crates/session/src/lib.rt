@@ -82,7 +82,7 @@ pub fn shown<'a>(c: Card, area: &'a [u8], sfi: u8, nn: u8, number: &mut u8) -> &
     if sound::is_sound(c) {
         let l = c.loading;
         let files = l.files;
-        let spot = table::spot_of(files, l.count, sfi, nn);
+        let spot = places::spot_of(files, l.count, sfi, nn);
         match spot {
             Spot::At { base, size } => {
                 *number = 0;

@@ -1,7 +1,7 @@
 // Lent memory: bytes read, compared, laid over others, and copied into arrays.
 ghost use mathlib.Core.Path.{_≡_};
 ghost use mathlib.Core.List.{_∷_, []};
-ghost use Prim.Native.Nat.{_+_, _*_, _≤_, _<_};
+ghost use Prim.Native.Nat.{_+_, _*_, _≤_, _<_, min};
 ghost use lib.ListN.{length, drop};
 ghost use Rattle.lists.specs.Bytes.{byteAt, allZero, same, zeros, padded, wordAt};
 ghost use Rattle.lists.specs.Over.{overwrite};
@@ -20,7 +20,7 @@ pub fn byte_at(s: &[u8], i: usize) -> u8
     if i < s.len() {
         return s[i];
     }
-    0
+    0 // past the end
 }
 
 // Two bytes as a number, the more significant first.
@@ -150,5 +150,15 @@ pub fn padded64(s: &[u8]) -> [u8; 64]
 {
     let mut b = [0u8; 64];
     lay(&mut b, s);
+    b
+}
+
+// The smaller of two counts.
+pub fn least(a: usize, b: usize) -> usize
+    ensures { λ r. ⌜ r ≡ min a b ⌝ }
+{
+    if a <= b {
+        return a;
+    }
     b
 }

@@ -64,7 +64,7 @@ fn put_front(out: &mut [u8], at: usize, bytes: &[u8], n: usize) -> usize
     }
     let k = at_most(n, bytes.len());
     slices::put_byte(out, at, BLANK);
-    lines::put_hex(out, at + 1, &bytes[..k])
+    digits::put_hex(out, at + 1, &bytes[..k])
 }
 
 fn put_byte(out: &mut [u8], at: usize, b: u8) -> usize
@@ -89,7 +89,7 @@ fn put_count(out: &mut [u8], at: usize, mark: u8, n: u64) -> usize
     ensures { λ r. ⌜ r ≤ at + 21 ⌝ }
 {
     slices::put_byte(out, at, mark);
-    lines::put_number(out, at + 1, n)
+    digits::put_number(out, at + 1, n)
 }
 
 // Refusal number and word: the line's start.
@@ -97,7 +97,7 @@ fn put_reply(out: &mut [u8], at: usize, number: u8, word: u16) -> usize
     requires { ⌜ at + 26 ≤ length (now out) ⌝ }
     ensures { λ r. ⌜ r ≤ at + 26 ⌝ }
 {
-    let to = lines::put_number(out, at, number as u64);
+    let to = digits::put_number(out, at, number as u64);
     put_word(out, to, word)
 }
 
@@ -195,7 +195,7 @@ fn put_descriptors(out: &mut [u8], at: usize, files: [Descriptor; 31], count: us
     while i < count {
         let d = files[i];
         let bytes = stored(d);
-        to = lines::put_hex(out, to, &bytes);
+        to = digits::put_hex(out, to, &bytes);
         i += 1;
     }
     to
@@ -451,7 +451,7 @@ fn put_area(out: &mut [u8], area: &[u8])
     requires { ⌜ (length (now out) ≡ 8198) × (length (now area) ≡ 4096) ⌝ }
 {
     slices::put_bytes(out, 0, b"AREA ");
-    let end = lines::put_hex(out, 5, area);
+    let end = digits::put_hex(out, 5, area);
     out[end] = LINE_FEED;
 }
 

@@ -18,7 +18,7 @@ use Rattle.model.specs.Sound.{secretsOk, soundWith}
 use Rattle.model.specs.Command.{walk, isShut, ready}
 use Rattle.model.specs.Order.{challengedState, finished, complete, orderLimit}
 use Rattle.soundness.specs.Keeps.{Onward}
-use Rattle.feed.specs.Steps.{stateOf, activeLife}
+use Rattle.steps.specs.Steps.{stateOf, activeLife}
 use Rattle.cutting.specs.Packs.{longestUnit, Sized, none, more}
 use Rattle.cutting.proofs.Commands.{units-sized}
 use Rattle.order.specs.Cuts as cuts

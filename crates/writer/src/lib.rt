@@ -1,15 +1,15 @@
 // The writer: an order that is complete for a chip, cut into records.
-use feed::Course;
 use model::Loading;
 use model::Open;
 use model::Written;
+use steps::Course;
 ghost use mathlib.Core.Path.{_≡_};
 ghost use mathlib.Core.List.{List};
 ghost use Prim.Native.Nat.{ℕ, _≤_};
 ghost use lib.ListN.{length};
 ghost use Rattle.model.specs.Command.{isShut, ready};
 ghost use Rattle.model.specs.Order.{orderLimit, complete, recordsFor, noWriting, writeOf};
-ghost use Rattle.feed.specs.Steps.{stateOf};
+ghost use Rattle.steps.specs.Steps.{stateOf};
 ghost use Rattle.order.specs.Cuts.{cuttable};
 ghost use Rattle.writer.specs.Writes.{Writes, passesBehind, cutFor, writeFor};
 
@@ -57,7 +57,7 @@ fn passes_behind(capacity: u8, d: &[u8]) -> bool
     ensures { λ r. ⌜ r ≡ passesBehind capacity (now (d .entry)) ⌝ }
 {
     let fresh = fresh::fresh_loading();
-    let load = feed::with_taken(fresh, CHALLENGE_ROW);
+    let load = steps::with_taken(fresh, CHALLENGE_ROW);
     let mut area = [0u8; 4096];
     let s = load::walked(load, &mut area, capacity, 0x00, d, FRONT_SIZE);
     let end = s.load;

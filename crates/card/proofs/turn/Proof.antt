@@ -15,7 +15,7 @@ use Rattle.card.proofs.turn.Statement.{statement}
 use Rattle.card.proofs.turn.Tie as tie
 use Rattle.card.proofs.turn.Reads as reads
 use Rattle.card.proofs.turn.Lts as lts
-use Rattle.card.proofs.event_on.Reads as event-on-reads
+use Rattle.events.proofs.event_on.Reads as event-on-reads
 use Rattle.card.proofs.is_kind.Reads as is-kind-reads
 use Rattle.card.proofs.refused_by.Reads as refused-by-reads
 use Rattle.slices.proofs.wide.Reads as wide-reads

@@ -6,23 +6,23 @@ use native.Mathlib.Numerals.{add-one}
 use lib.ListN.{length, take, drop, set, getD, length-set, length-take, length-drop, length-append}
 use denote.Ref.{now}
 use borrow.Author.Needs.{needs}
-use Rattle.feed.proofs.Values.{table-filled}
+use Rattle.steps.proofs.Values.{table-filled}
 use Rattle.lists.specs.Bytes.{part, byteAt}
 use Rattle.model.specs.Rules.{went, thence}
 use lib.Seq.{length-take-le}
-use Rattle.feed.specs.Steps.{stateOf, took}
+use Rattle.steps.specs.Steps.{stateOf, took}
 use Rattle.model.specs.declared.Loading.{Loading}
 use Rattle.model.specs.declared.Open.the-variants.{Table}
 use Rattle.model.specs.Loads.{withOpen}
 use Rattle.lists.specs.Over.{overwrite}
-use Rattle.feed.proofs.Values.{table-held, table-last, table-fails}
+use Rattle.steps.proofs.Values.{table-held, table-last, table-fails}
 use Rattle.feed.proofs.descriptor_fed.Statement.{statement}
 use Rattle.feed.proofs.descriptor_fed.Tie as tie
 use Rattle.feed.proofs.descriptor_fed.Reads as reads
 use Rattle.feed.proofs.descriptor_fed.Lts as lts
 use Rattle.feed.proofs.last_byte.Reads as last-byte-reads
 use Rattle.feed.proofs.stashed.Reads as stashed-reads
-use Rattle.feed.proofs.with_open.Reads as with-open-reads
+use Rattle.steps.proofs.with_open.Reads as with-open-reads
 
 sub-left : tie.Need-sub-left
 sub-left c = search needs

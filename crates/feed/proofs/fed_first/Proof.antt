@@ -8,13 +8,13 @@ use denote.Ref.{now}
 use borrow.Author.Needs.{needs}
 use Rattle.model.specs.Rules.{fed}
 use Rattle.soundness.proofs.Opened.{sound-record}
-use Rattle.feed.specs.Steps.{activeLife}
-use Rattle.feed.proofs.Values.{sure-table, sure-count}
+use Rattle.steps.specs.Steps.{activeLife}
+use Rattle.steps.proofs.Values.{sure-table, sure-count}
 use Rattle.feed.proofs.fed_first.Statement.{statement}
 use Rattle.feed.proofs.fed_first.Tie as tie
 use Rattle.feed.proofs.fed_first.Reads as reads
 use Rattle.feed.proofs.fed_first.Lts as lts
-use Rattle.feed.proofs.record_fed.Reads as record-fed-reads
+use Rattle.steps.proofs.record_fed.Reads as record-fed-reads
 use Rattle.feed.proofs.table_fed.Reads as table-fed-reads
 
 enum-told : tie.Need-enum-told

@@ -7,7 +7,7 @@ use lib.ListN.{length, take, drop, set, getD, length-set, length-take, length-dr
 use denote.Ref.{now}
 use borrow.Author.Needs.{needs}
 use lib.Seq.{length-take-le}
-use Rattle.feed.proofs.Values.{admitted-room}
+use Rattle.steps.proofs.Values.{admitted-room}
 use Rattle.model.specs.Rules.{tableByte, went}
 use Rattle.feed.proofs.last_byte.Statement.{statement}
 use Rattle.feed.proofs.last_byte.Tie as tie
@@ -16,7 +16,7 @@ use Rattle.feed.proofs.last_byte.Lts as lts
 use Rattle.feed.proofs.table_done.Reads as table-done-reads
 use Rattle.feed.proofs.with_file.Reads as with-file-reads
 use Rattle.table.proofs.admit.Reads as admit-reads
-use Rattle.table.proofs.descriptor_of.Reads as descriptor-of-reads
+use Rattle.descriptor.proofs.descriptor_of.Reads as descriptor-of-reads
 
 array-write-bytes : tie.Need-array-write-bytes
 array-write-bytes c = search needs

@@ -6,7 +6,7 @@ use native.Mathlib.Numerals.{add-one}
 use lib.ListN.{length, take, drop, set, getD, length-set, length-take, length-drop, length-append}
 use denote.Ref.{now}
 use borrow.Author.Needs.{needs}
-use Rattle.feed.proofs.Values.{open-facts, never-shut, never-record}
+use Rattle.steps.proofs.Values.{open-facts, never-shut, never-record}
 use mathlib.Core.Path.{subst}
 use Rattle.model.specs.declared.Open.the-variants.{Shut, Table, Record}
 use Rattle.soundness.proofs.Opened.{table-facts}

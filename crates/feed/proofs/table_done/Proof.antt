@@ -6,13 +6,13 @@ use native.Mathlib.Numerals.{add-one}
 use lib.ListN.{length, take, drop, set, getD, length-set, length-take, length-drop, length-append}
 use denote.Ref.{now}
 use borrow.Author.Needs.{needs}
-use Rattle.feed.proofs.Values.{table-ends, table-goes-on}
+use Rattle.steps.proofs.Values.{table-ends, table-goes-on}
 use Rattle.feed.proofs.table_done.Statement.{statement}
 use Rattle.feed.proofs.table_done.Tie as tie
 use Rattle.feed.proofs.table_done.Reads as reads
 use Rattle.feed.proofs.table_done.Lts as lts
-use Rattle.feed.proofs.with_open.Reads as with-open-reads
-use Rattle.feed.proofs.with_taken.Reads as with-taken-reads
+use Rattle.steps.proofs.with_open.Reads as with-open-reads
+use Rattle.steps.proofs.with_taken.Reads as with-taken-reads
 
 with-open-requires : tie.Need-with-open-requires
 with-open-requires c κs = search needs

@@ -6,20 +6,20 @@ use native.Mathlib.Numerals.{add-one}
 use lib.ListN.{length, take, drop, set, getD, length-set, length-take, length-drop, length-append}
 use denote.Ref.{now}
 use borrow.Author.Needs.{needs}
-use Rattle.feed.proofs.Values.{table-feeds}
+use Rattle.steps.proofs.Values.{table-feeds}
 use native.Mathlib.Nat.{sub-self}
 use Rattle.lists.specs.Least.{rest-least, part-least}
-use Rattle.feed.proofs.Values.{passed-to, refused-by}
+use Rattle.steps.proofs.Values.{passed-to, refused-by}
 use Rattle.model.specs.Rules.{tableBytes}
 use Rattle.soundness.proofs.Feeding.{Fed}
 use Rattle.lists.specs.Bytes.{part}
-use Rattle.feed.specs.Steps.{stateOf}
-use Rattle.feed.proofs.Values.{table-passes-on, fed-on}
+use Rattle.steps.specs.Steps.{stateOf}
+use Rattle.steps.proofs.Values.{table-passes-on, fed-on}
 use Rattle.feed.proofs.table_fed.Statement.{statement}
 use Rattle.feed.proofs.table_fed.Tie as tie
 use Rattle.feed.proofs.table_fed.Reads as reads
 use Rattle.feed.proofs.table_fed.Lts as lts
-use Rattle.feed.proofs.least.Reads as least-reads
+use Rattle.slices.proofs.least.Reads as least-reads
 use Rattle.feed.proofs.next_fed.Reads as next-fed-reads
 
 abbrev Inv-loop : tie.InvT-loop

@@ -12,15 +12,15 @@ use Rattle.soundness.specs.Keeps.{GoesOn}
 use Rattle.model.specs.Stored.{areaSize}
 use Rattle.model.specs.Command.{command}
 use Rattle.records.proofs.Walks.{walk-ends}
-use Rattle.feed.specs.Steps.{stateOf, coursed, activeLife}
-use Rattle.feed.specs.declared.Course.{Course}
+use Rattle.steps.specs.Steps.{stateOf, coursed, activeLife}
+use Rattle.steps.specs.declared.Course.{Course}
 use Rattle.load.proofs.commanded.Statement.{statement}
 use Rattle.load.proofs.commanded.Tie as tie
 use Rattle.load.proofs.commanded.Reads as reads
 use Rattle.load.proofs.commanded.Lts as lts
 use Rattle.feed.proofs.fed_first.Reads as fed-first-reads
 use Rattle.load.proofs.ended_by.Reads as ended-by-reads
-use Rattle.load.proofs.failed_by.Reads as failed-by-reads
+use Rattle.content.proofs.failed_by.Reads as failed-by-reads
 use Rattle.load.proofs.walked_on.Reads as walked-on-reads
 
 fed-first-requires : tie.Need-fed-first-requires

@@ -6,11 +6,11 @@ use native.Mathlib.Numerals.{add-one}
 use lib.ListN.{length, take, drop, set, getD, length-set, length-take, length-drop, length-append}
 use denote.Ref.{now}
 use borrow.Author.Needs.{needs}
-use Rattle.feed.specs.Steps.{coursed}
-use Rattle.feed.specs.declared.Course.{Course}
+use Rattle.steps.specs.Steps.{coursed}
+use Rattle.steps.specs.declared.Course.{Course}
 use Rattle.model.specs.Rules.{grouping, went, asked, failed}
 use Rattle.model.specs.Command.{walk}
-use Rattle.feed.specs.Steps.{stateOf}
+use Rattle.steps.specs.Steps.{stateOf}
 use Rattle.records.specs.Steps.{Walking}
 use Rattle.records.proofs.Walks.{walk-ends, walk-out, walk-turn, walk-goes}
 use Rattle.model.specs.Loads.{withLast}
@@ -18,7 +18,7 @@ use Rattle.load.proofs.walked.Statement.{statement}
 use Rattle.load.proofs.walked.Tie as tie
 use Rattle.load.proofs.walked.Reads as reads
 use Rattle.load.proofs.walked.Lts as lts
-use Rattle.load.proofs.grouping_at.Reads as grouping-at-reads
+use Rattle.rules.proofs.grouping_at.Reads as grouping-at-reads
 use Rattle.records.proofs.run_from.Reads as run-from-reads
 
 abbrev Inv-loop : tie.InvT-loop

@@ -7,14 +7,14 @@ use lib.ListN.{length, take, drop, set, getD, length-set, length-take, length-dr
 use denote.Ref.{now}
 use borrow.Author.Needs.{needs}
 use Rattle.records.specs.Steps.{endedAs}
-use Rattle.feed.specs.Steps.{stateOf}
-use Rattle.feed.specs.declared.Course.{Course}
+use Rattle.steps.specs.Steps.{stateOf}
+use Rattle.steps.specs.declared.Course.{Course}
 use Rattle.load.proofs.walked_on.Statement.{statement}
 use Rattle.load.proofs.walked_on.Tie as tie
 use Rattle.load.proofs.walked_on.Reads as reads
 use Rattle.load.proofs.walked_on.Lts as lts
 use Rattle.load.proofs.ended_by.Reads as ended-by-reads
-use Rattle.load.proofs.failed_by.Reads as failed-by-reads
+use Rattle.content.proofs.failed_by.Reads as failed-by-reads
 use Rattle.load.proofs.walked.Reads as walked-reads
 
 walked-requires : tie.Need-walked-requires

@@ -1,5 +1,5 @@
 use borrow.Author.Needs.{needs}
-use Rattle.order.proofs.Units.{unknown-whole}
+use Rattle.reader.proofs.Units.{unknown-whole}
 use Rattle.order.proofs.is_spannable.Statement.{statement}
 use Rattle.order.proofs.is_spannable.Tie as tie
 

@@ -10,7 +10,7 @@ use Rattle.records.proofs.placed.Statement.{statement}
 use Rattle.records.proofs.placed.Tie as tie
 use Rattle.records.proofs.placed.Reads as reads
 use Rattle.records.proofs.placed.Lts as lts
-use Rattle.table.proofs.spot_of.Reads as spot-of-reads
+use Rattle.places.proofs.spot_of.Reads as spot-of-reads
 
 sub-if1 : tie.Need-sub-if1
 sub-if1 c = search needs

@@ -8,7 +8,7 @@ use denote.Ref.{now}
 use borrow.Author.Needs.{needs}
 use Rattle.model.specs.Loads.{withLast}
 use Rattle.model.specs.Command.{walk}
-use Rattle.feed.specs.Steps.{stateOf, activeLife}
+use Rattle.steps.specs.Steps.{stateOf, activeLife}
 use Rattle.soundness.proofs.Parts.{sound-parts}
 use Rattle.records.specs.Steps.{Walking}
 use Rattle.records.specs.Fits.{FitAt}

@@ -15,7 +15,7 @@ use Rattle.session.proofs.shown.Tie as tie
 use Rattle.session.proofs.shown.Reads as reads
 use Rattle.session.proofs.shown.Lts as lts
 use Rattle.sound.proofs.is_sound.Reads as is-sound-reads
-use Rattle.table.proofs.spot_of.Reads as spot-of-reads
+use Rattle.places.proofs.spot_of.Reads as spot-of-reads
 
 slice-aggregate-result : tie.Need-slice-aggregate-result
 slice-aggregate-result c = search needs

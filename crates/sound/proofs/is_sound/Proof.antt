@@ -1,7 +1,7 @@
 use mathlib.Core.Path.{sym, _∙_}
 use native.Mathlib.Omega.{arith}
 use borrow.Author.Needs.{needs}
-use Rattle.sound.proofs.Laws.{count-over, life-fails, load-fails, open-fails, table-left}
+use Rattle.opened.proofs.Laws.{count-over, life-fails, load-fails, open-fails, table-left}
 use Rattle.sound.proofs.is_sound.Statement.{statement}
 use Rattle.sound.proofs.is_sound.Tie as tie
 

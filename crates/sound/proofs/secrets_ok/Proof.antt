@@ -4,7 +4,7 @@ use native.Mathlib.Omega.{arith}
 use lib.ListN.{length, drop}
 use borrow.Author.Needs.{needs}
 use Rattle.model.specs.Sound.{secretsOk}
-use Rattle.sound.proofs.Laws.{secrets-step, secrets-stop, secrets-end}
+use Rattle.opened.proofs.Laws.{secrets-step, secrets-stop, secrets-end}
 use Rattle.sound.proofs.secrets_ok.Statement.{statement}
 use Rattle.sound.proofs.secrets_ok.Tie as tie
 

@@ -4,8 +4,8 @@ use denote.Ref.{now}
 use borrow.Author.Needs.{needs}
 use Rattle.writer.proofs.Complete.{walking-start, walked-so}
 use Rattle.records.specs.Steps.{endedAs}
-use Rattle.feed.specs.Steps.{stateOf}
-use Rattle.feed.specs.declared.Course.{Course}
+use Rattle.steps.specs.Steps.{stateOf}
+use Rattle.steps.specs.declared.Course.{Course}
 use Rattle.writer.proofs.passes_behind.Statement.{statement}
 use Rattle.writer.proofs.passes_behind.Tie as tie
 

@@ -1,0 +1,182 @@
+// One descriptor of the file table: decoded, its fields judged, its size, and beside another one.
+use model::Descriptor;
+ghost use mathlib.Core.Path.{_≡_};
+ghost use Prim.Native.Nat.{_+_, _-_, _*_, _≤_, _<_};
+ghost use Rattle.descriptor.specs.Fields.{efFields};
+ghost use Rattle.model.specs.Table.{descriptorOf, dfOk, efType, clash, accessOk, accessesOk, sizeOf, sizesOk, counterIn};
+
+const BINARY: u8 = 0x01;
+
+const SIMULATED: u8 = 0x08;
+
+const COUNTERS: u8 = 0x09;
+
+// The descriptor that 18 bytes are.
+pub fn descriptor_of(b: [u8; 18]) -> Descriptor
+    ensures { λ r. ⌜ r ≡ descriptorOf b ⌝ }
+{
+    let lid = slices::word(b[0], b[1]);
+    Descriptor {
+        lid: lid,
+        sfi: b[2],
+        filetype: b[3],
+        eftype: b[4],
+        recsize: b[5],
+        numrec: b[6],
+        ac: [b[7], b[8], b[9], b[10]],
+        nkey: [b[11], b[12], b[13], b[14]],
+        refsfi: b[15],
+        refnum: b[16],
+        status: b[17],
+    }
+}
+
+pub fn df_ok(d: Descriptor) -> bool
+    ensures { λ r. ⌜ r ≡ dfOk d ⌝ }
+{
+    if d.sfi != 0 {
+        return false;
+    }
+    if d.filetype != 0x02 {
+        return false;
+    }
+    if d.eftype != 0x00 {
+        return false;
+    }
+    if d.recsize != 0 {
+        return false;
+    }
+    if d.numrec != 0 {
+        return false;
+    }
+    if d.refsfi != 0 {
+        return false;
+    }
+    if d.refnum != 0 {
+        return false;
+    }
+    d.status <= 1
+}
+
+fn ef_type(t: u8) -> bool
+    ensures { λ r. ⌜ r ≡ efType t ⌝ }
+{
+    if t == BINARY {
+        return true;
+    }
+    if t == 0x02 {
+        return true;
+    }
+    if t == 0x04 {
+        return true;
+    }
+    if t == SIMULATED {
+        return true;
+    }
+    t == COUNTERS
+}
+
+pub fn clash_of(d: Descriptor, e: Descriptor) -> bool
+    ensures { λ r. ⌜ r ≡ clash d e ⌝ }
+{
+    if d.lid == e.lid {
+        return true;
+    }
+    if d.sfi == 0 {
+        return false;
+    }
+    d.sfi == e.sfi
+}
+
+fn access_ok(a: u8, k: u8) -> bool
+    ensures { λ r. ⌜ r ≡ accessOk a k ⌝ }
+{
+    if a == 0x10 {
+        if k < 1 {
+            return false;
+        }
+        return k <= 3;
+    }
+    if a == 0x00 {
+        return k == 0;
+    }
+    if a == 0x01 {
+        return k == 0;
+    }
+    if a == 0x1F {
+        return k == 0;
+    }
+    false
+}
+
+pub fn accesses_ok(a: [u8; 4], k: [u8; 4]) -> bool
+    ensures { λ r. ⌜ r ≡ accessesOk a k ⌝ }
+{
+    if access_ok(a[0], k[0]) {
+        if access_ok(a[1], k[1]) {
+            if access_ok(a[2], k[2]) {
+                return access_ok(a[3], k[3]);
+            }
+        }
+    }
+    false
+}
+
+// A file's bytes in the file area.
+pub fn size_of(d: Descriptor) -> usize
+    ensures { λ r. ⌜ (r ≡ sizeOf d) × (r ≤ 65535) ⌝ }
+{
+    let z = slices::wide(d.recsize);
+    let n = slices::wide(d.numrec);
+    if d.eftype == BINARY {
+        return 256 * z + n;
+    }
+    if d.eftype == SIMULATED {
+        return 0;
+    }
+    z * n
+}
+
+fn sizes_ok(d: Descriptor) -> bool
+    ensures { λ r. ⌜ r ≡ sizesOk d ⌝ }
+{
+    if d.eftype == BINARY {
+        return 1 <= size_of(d);
+    }
+    if d.recsize < 1 {
+        return false;
+    }
+    1 <= d.numrec
+}
+
+pub fn counter_in(d: Descriptor, e: Descriptor) -> bool
+    ensures { λ r. ⌜ r ≡ counterIn d e ⌝ }
+{
+    if e.eftype != COUNTERS {
+        return false;
+    }
+    if e.sfi != d.refsfi {
+        return false;
+    }
+    d.refnum <= e.recsize / 3
+}
+
+// What an EF's descriptor says by itself.
+pub fn ef_fields_ok(d: Descriptor) -> bool
+    ensures { λ r. ⌜ r ≡ efFields d ⌝ }
+{
+    if 0x1E < d.sfi {
+        return false;
+    }
+    if d.filetype != 0x04 {
+        return false;
+    }
+    let t = d.eftype;
+    if ef_type(t) {
+        if d.status != 0 {
+            return false;
+        }
+        return sizes_ok(d);
+    }
+    false
+}

@@ -1,0 +1,69 @@
+use Prim.Native.Nat.{_≤_}
+use mathlib.Core.Path.{_≡_, sym, _∙_}
+use native.Mathlib.Omega.{arith}
+use lib.ListN.{length, length-set}
+use borrow.Author.Needs.{needs}
+use Rattle.digits.proofs.Digits.{digits-more, digits-none}
+use Rattle.digits.specs.Trace.{lastDigits}
+use Rattle.lists.specs.Over.{overwrite}
+use Rattle.digits.proofs.put_digits.Statement.{statement}
+use Rattle.digits.proofs.put_digits.Tie as tie
+
+abbrev Inv-loop : tie.InvT-loop
+Inv-loop out₀ at n w rest₀ i₀ out rest i =
+    (i ≤ w) × (length out ≡ length out₀) × (overwrite out at (lastDigits i rest) ≡ overwrite out₀ at (lastDigits w n))
+
+abbrev μ-loop : tie.MeasureT-loop
+μ-loop out₀ at n w rest₀ i₀ out rest i = i
+
+loop-holds : tie.Need-loop-holds Inv-loop μ-loop
+loop-holds c = search needs
+
+sub-i : tie.Need-sub-i Inv-loop μ-loop
+sub-i c = search needs
+
+cast-out : tie.Need-cast-out Inv-loop μ-loop
+cast-out c = search needs
+
+add-out : tie.Need-add-out Inv-loop μ-loop
+add-out c = search needs
+
+add-out-2 : tie.Need-add-out-2 Inv-loop μ-loop
+add-out-2 c = search needs
+
+slice-write-out : tie.Need-slice-write-out Inv-loop μ-loop
+slice-write-out c = omega arith
+
+loop-less : tie.Need-loop-less Inv-loop μ-loop
+loop-less c = search needs
+
+loop-again : tie.Need-loop-again Inv-loop μ-loop
+loop-again c =
+    let l = c .before .loop in
+    let a = c .before .before .args in
+    (omega arith, simp length-set (l .inv .1), digits-more (l .out) (a .at) (l .i) (l .rest) (omega arith) ∙ l .inv .2)
+
+same-length : tie.Need-same-length Inv-loop μ-loop
+same-length c = c .before .loop .inv .1
+
+returns : tie.Need-returns Inv-loop μ-loop
+returns c =
+    let l = c .before .loop in
+    sym (digits-none (l .out) (c .before .before .args .at) (l .i) (l .rest) (omega arith)) ∙ l .inv .2
+
+pub put-digits-spec : {M : Type 1} → statement M
+put-digits-spec =
+    tie.close
+    (tie.spec
+    Inv-loop
+    μ-loop
+    loop-holds
+    sub-i
+    cast-out
+    add-out
+    add-out-2
+    slice-write-out
+    loop-less
+    loop-again
+    same-length
+    returns)

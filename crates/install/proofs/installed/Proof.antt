@@ -1,0 +1,51 @@
+use mathlib.Core.Path.{sym, _∙_}
+use borrow.Author.Needs.{needs}
+use Rattle.model.specs.Events.{installing}
+use borrow.Author.Tests.{eq-eqb, ne-eqb}
+use Rattle.install.proofs.installed.Statement.{statement}
+use Rattle.install.proofs.installed.Tie as tie
+
+is-install-form-requires : tie.Need-is-install-form-requires
+is-install-form-requires c κs = search needs
+
+clear-requires : tie.Need-clear-requires
+clear-requires c κs = search needs
+
+named-requires : tie.Need-named-requires
+named-requires c κs =
+    let then = c .before .before .before .before .before .before in
+    sym (then .before .is-install-form .ensures) ∙ then .if1 .taken
+
+same-length : tie.Need-same-length
+same-length c = search needs
+
+returns : tie.Need-returns
+unfolding installing
+returns c =
+    let cleared = c .before .before .before in
+    let absent = cleared .before .before in
+    let then = absent .before .before in
+    let s = then .before .before .before .before .before in
+    simp (← then .before .is-install-form .ensures, then .if1 .taken, eq-eqb _ _ (absent .if2 .taken), c .named .ensures, cleared .clear .ensures, s .pre)
+
+returns-2 : tie.Need-returns-2
+unfolding installing
+returns-2 c =
+    let then = c .before .before in
+    simp (← then .before .is-install-form .ensures, then .if1 .taken, ne-eqb _ _ (c .if2 .left))
+
+returns-3 : tie.Need-returns-3
+unfolding installing
+returns-3 c = simp (← c .before .is-install-form .ensures, c .if1 .left)
+
+pub installed-spec : {M : Type 1} → statement M
+installed-spec =
+    tie.close
+    (tie.spec
+    is-install-form-requires
+    clear-requires
+    named-requires
+    same-length
+    returns
+    returns-2
+    returns-3)

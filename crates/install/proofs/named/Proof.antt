@@ -1,0 +1,51 @@
+use denote.Ref.{now}
+use borrow.Author.Needs.{needs}
+use borrow.Author.Tests.{eq-eqb, ne-eqb}
+use Rattle.install.proofs.Install.{install-ends, install-fits, life-named}
+use Rattle.install.proofs.named.Statement.{statement}
+use Rattle.install.proofs.named.Tie as tie
+
+places-in-requires : tie.Need-places-in-requires
+places-in-requires c κs = search needs
+
+sub-padded16 : tie.Need-sub-padded16
+sub-padded16 c = search needs
+
+part-padded16-start : tie.Need-part-padded16-start
+part-padded16-start c = search needs
+
+part-padded16-end : tie.Need-part-padded16-end
+part-padded16-end c =
+    let p = c .places-in in
+    let s = c .before .before in
+    install-ends (now (s .args .d)) (p .result) (p .ensures .0) (s .pre)
+
+padded16-requires : tie.Need-padded16-requires
+padded16-requires c κs =
+    let p = c .before .places-in in
+    let s = c .before .before .before in
+    install-fits (now (s .args .d)) (p .result) (p .ensures .0) (s .pre)
+
+returns : tie.Need-returns
+returns c =
+    let p = c .before .before .before .places-in in
+    let a = c .before .before .before .before .before .args in
+    life-named (now (a .d)) (p .result) (p .ensures .0) (a .life) (a .p1) 0x03 _ (rw (eq-eqb (a .p1) 0x04 (c .if1 .taken))) (c .before .padded16 .ensures)
+
+returns-2 : tie.Need-returns-2
+returns-2 c =
+    let p = c .before .before .before .places-in in
+    let a = c .before .before .before .before .before .args in
+    life-named (now (a .d)) (p .result) (p .ensures .0) (a .life) (a .p1) 0x07 _ (rw (ne-eqb (a .p1) 0x04 (c .if1 .left))) (c .before .padded16 .ensures)
+
+pub named-spec : {M : Type 1} → statement M
+named-spec =
+    tie.close
+    (tie.spec
+    places-in-requires
+    sub-padded16
+    part-padded16-start
+    part-padded16-end
+    padded16-requires
+    returns
+    returns-2)

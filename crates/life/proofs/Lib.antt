@@ -1,2 +1,0 @@
-pub mod Install
-pub mod Fci

@@ -1,3 +1,0 @@
-pub mod Facts
-pub mod Openings
-pub mod Sizes

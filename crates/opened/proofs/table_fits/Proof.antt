@@ -1,0 +1,40 @@
+use mathlib.Core.Path.{sym}
+use native.Mathlib.Omega.{arith}
+use borrow.Author.Needs.{needs}
+use Rattle.opened.proofs.Laws.{held-over, sum-over, sum-fits}
+use Rattle.opened.proofs.table_fits.Statement.{statement}
+use Rattle.opened.proofs.table_fits.Tie as tie
+
+returns : tie.Need-returns
+returns c = sym (held-over _ _ _ (c .if1 .taken))
+
+returns-2 : tie.Need-returns-2
+returns-2 c =
+    let a = c .before .before .args in
+    sym (sum-over (a .count) (a .held) (a .missing) (omega arith))
+
+returns-3 : tie.Need-returns-3
+returns-3 c =
+    let a = c .before .before .before .args in
+    sym (sum-over (a .count) (a .held) (a .missing) (omega arith))
+
+mul-all : tie.Need-mul-all
+mul-all c = search needs
+
+add-all : tie.Need-add-all
+add-all c = search needs
+
+add-all-2 : tie.Need-add-all-2
+add-all-2 c = search needs
+
+returns-4 : tie.Need-returns-4
+returns-4 c = sym (sum-over _ _ _ (c .if4 .taken))
+
+returns-5 : tie.Need-returns-5
+returns-5 c =
+    let a = c .before .before .before .before .args in
+    sym (sum-fits (a .count) (a .held) (a .missing) (omega arith) (omega arith))
+
+pub table-fits-spec : {M : Type 1} → statement M
+table-fits-spec =
+    tie.close (tie.spec returns returns-2 returns-3 mul-all add-all add-all-2 returns-4 returns-5)

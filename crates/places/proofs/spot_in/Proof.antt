@@ -1,0 +1,55 @@
+use native.Mathlib.Omega.{arith}
+use borrow.Author.Needs.{needs}
+use Rattle.descriptor.proofs.Laws.{bytes-product}
+use Rattle.lists.specs.Choice.{cases}
+use Rattle.places.proofs.spot_in.Statement.{statement}
+use Rattle.places.proofs.spot_in.Tie as tie
+
+size-of-requires : tie.Need-size-of-requires
+size-of-requires c κs = search needs
+
+returns : tie.Need-returns
+returns c = rw (c .size-of .ensures .0) (search cases)
+
+returns-2 : tie.Need-returns-2
+returns-2 c = search cases
+
+returns-3 : tie.Need-returns-3
+returns-3 c = search cases
+
+returns-4 : tie.Need-returns-4
+returns-4 c = search cases
+
+returns-5 : tie.Need-returns-5
+returns-5 c = search cases
+
+wide-requires : tie.Need-wide-requires
+wide-requires c κs = search needs
+
+wide-requires-2 : tie.Need-wide-requires-2
+wide-requires-2 c κs = search needs
+
+mul-skipped : tie.Need-mul-skipped
+mul-skipped c = omega (arith, bytes-product (c .wide2 .ensures .1) (c .before .wide .ensures .1))
+
+add-begin : tie.Need-add-begin
+add-begin c = omega (arith, bytes-product (c .wide2 .ensures .1) (c .before .wide .ensures .1))
+
+returns-6 : tie.Need-returns-6
+returns-6 c = rw (c .wide2 .ensures .0, c .before .wide .ensures .0) (search cases)
+
+pub spot-in-spec : {M : Type 1} → statement M
+spot-in-spec =
+    tie.close
+    (tie.spec
+    size-of-requires
+    returns
+    returns-2
+    returns-3
+    returns-4
+    returns-5
+    wide-requires
+    wide-requires-2
+    mul-skipped
+    add-begin
+    returns-6)

@@ -1,0 +1,55 @@
+use Prim.Native.Nat.{ℕ, suc, _+_, _*_, _-_, _≤_, _<_, _/_, _%_}
+use mathlib.Core.Path.{_≡_, refl, ap, sym, _∙_}
+use mathlib.Core.List.{List, [], _∷_, _++_}
+use native.Mathlib.Omega.{arith}
+use native.Mathlib.Numerals.{add-one}
+use lib.ListN.{length, take, drop, set, getD, length-set, length-take, length-drop, length-append}
+use denote.Ref.{now}
+use borrow.Author.Needs.{needs}
+use Rattle.model.specs.Rules.{challenged}
+use borrow.Author.Tests.{eq-eqb, ne-eqb}
+use Rattle.queries.proofs.challenge_given.Statement.{statement}
+use Rattle.queries.proofs.challenge_given.Tie as tie
+use Rattle.queries.proofs.challenge_given.Reads as reads
+use Rattle.queries.proofs.challenge_given.Lts as lts
+use Rattle.steps.proofs.with_taken.Reads as with-taken-reads
+use Rattle.content.proofs.failed_by.Reads as failed-by-reads
+use Rattle.rows.proofs.is_due.Reads as is-due-reads
+
+failed-by-requires : tie.Need-failed-by-requires
+failed-by-requires c κs = search needs
+
+returns : tie.Need-returns
+unfolding challenged
+returns c = λ a. rw (c .failed-by .ensures, ne-eqb _ _ (c .before .if1 .taken))
+
+is-due-requires : tie.Need-is-due-requires
+is-due-requires c κs = search needs
+
+with-taken-requires : tie.Need-with-taken-requires
+with-taken-requires c κs = search needs
+
+returns-2 : tie.Need-returns-2
+unfolding challenged
+returns-2 c =
+    λ a. rw (c .with-taken .ensures, eq-eqb _ _ (c .before .before .before .if1 .left), ← c .before .before .is-due .ensures, c .before .if2 .taken)
+
+failed-by-requires-2 : tie.Need-failed-by-requires-2
+failed-by-requires-2 c κs = search needs
+
+returns-3 : tie.Need-returns-3
+unfolding challenged
+returns-3 c =
+    λ a. rw (c .failed-by2 .ensures, eq-eqb _ _ (c .before .before .before .if1 .left), ← c .before .before .is-due .ensures, c .before .if2 .left)
+
+pub challenge-given-spec : {M : Type 1} → statement M
+challenge-given-spec =
+    tie.close
+    (tie.spec
+    failed-by-requires
+    returns
+    is-due-requires
+    with-taken-requires
+    returns-2
+    failed-by-requires-2
+    returns-3)

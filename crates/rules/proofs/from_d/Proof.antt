@@ -1,0 +1,65 @@
+use Prim.Native.Nat.{ℕ, suc, _+_, _*_, _-_, _≤_, _<_, _/_, _%_}
+use mathlib.Core.Path.{_≡_, refl, ap, sym, _∙_}
+use mathlib.Core.List.{List, [], _∷_, _++_}
+use native.Mathlib.Omega.{arith}
+use native.Mathlib.Numerals.{add-one}
+use lib.ListN.{length, take, drop, set, getD, length-set, length-take, length-drop, length-append}
+use denote.Ref.{now}
+use borrow.Author.Needs.{needs}
+use Rattle.soundness.proofs.Walks.{dueRow-passes}
+use Rattle.steps.specs.Steps.{stateOf}
+use Rattle.records.proofs.Chains.{d-passes, d-refuses}
+use Rattle.rules.proofs.from_d.Statement.{statement}
+use Rattle.rules.proofs.from_d.Tie as tie
+use Rattle.rules.proofs.from_d.Reads as reads
+use Rattle.rules.proofs.from_d.Lts as lts
+use Rattle.content.proofs.failed_by.Reads as failed-by-reads
+use Rattle.rules.proofs.from_e.Reads as from-e-reads
+use Rattle.rows.proofs.due_row.Reads as due-row-reads
+
+due-row-requires : tie.Need-due-row-requires
+due-row-requires c κs = search needs
+
+enum-known-verdict : tie.Need-enum-known-verdict
+enum-known-verdict c = search needs
+
+from-e-requires : tie.Need-from-e-requires
+from-e-requires c κs =
+    let s = c .before .before .before .before .before .before .before in
+    let e = sym (c .before .before .before .before .due-row .ensures) ∙ c .before .before .verdict .given .1 in
+    let p = dueRow-passes (s .args .l .rows) (s .args .l .last) (s .args .h .tag) _ e in
+    (s .pre .0, s .pre .1, record { least = p .0; most = p .1; personal = s .pre .2; rowDue = p .2 }, s .pre .3)
+
+enum-known-verdict-2 : tie.Need-enum-known-verdict-2
+enum-known-verdict-2 c = search needs
+
+failed-by-requires : tie.Need-failed-by-requires
+failed-by-requires c κs = search needs
+
+same-length : tie.Need-same-length
+same-length c = search needs
+
+returns : tie.Need-returns
+returns c =
+    let s = c .before .before .before .before .before .before .before .before .before .before in
+    let e = sym (c .before .before .before .before .before .before .before .due-row .ensures) ∙ c .before .before .before .before .before .verdict .given .1 in
+    c .before .before .from-e .ensures ∙ sym (d-passes (s .args .capacity) (s .args .h) (drop (s .args .at) (now (s .args .d))) (stateOf (s .args .l) (now (s .args .area))) _ e)
+
+returns-2 : tie.Need-returns-2
+returns-2 c =
+    let s = c .before .before .before .before .before .before .before in
+    let e = sym (c .before .before .before .before .due-row .ensures) ∙ c .before .before .verdict2 .given .1 in
+    rw (c .failed-by .ensures) (sym (d-refuses (s .args .capacity) (s .args .h) (drop (s .args .at) (now (s .args .d))) (stateOf (s .args .l) (now (s .args .area))) _ e))
+
+pub from-d-spec : {M : Type 1} → statement M
+from-d-spec =
+    tie.close
+    (tie.spec
+    due-row-requires
+    enum-known-verdict
+    from-e-requires
+    enum-known-verdict-2
+    failed-by-requires
+    same-length
+    returns
+    returns-2)

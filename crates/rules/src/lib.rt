@@ -1,0 +1,184 @@
+// One grouping, by rules a to h.
+use model::Head;
+use model::Header;
+use model::Loading;
+use model::Open;
+use model::Row;
+use model::Spot;
+use model::Verdict;
+use steps::Step;
+ghost use mathlib.Core.Path.{_≡_};
+ghost use mathlib.Core.Bool.{true, false};
+ghost use lib.Dec.{eqb};
+ghost use Prim.Native.Nat.{_+_, _-_, _≤_, _<_};
+ghost use lib.ListN.{length, drop};
+ghost use Rattle.model.specs.declared.Open.the-variants.{Shut};
+ghost use Rattle.model.specs.declared.Verdict.the-variants.{Passes};
+ghost use Rattle.model.specs.Rows.{rowAt};
+ghost use Rattle.model.specs.Loads.{fileList};
+ghost use Rattle.model.specs.Rules.{roomOf, spanned, grouping};
+ghost use Rattle.soundness.specs.Keeps.{Ruled};
+ghost use Rattle.steps.specs.Steps.{stateOf, stepped, Sure};
+ghost use Rattle.records.specs.Steps.{fromF, fromE, fromD, fromC, fromB, fitsRow, Dued, Roomed};
+
+const RECORD_ROW: usize = 11;
+
+const TABLE_ROW: usize = 5;
+
+// Rule h of a value that may run on; it begins at `at`.
+fn spanned_at(
+    l: Loading,
+    area: &mut [u8],
+    row: usize,
+    h: Head,
+    d: &[u8],
+    at: usize,
+    room: usize,
+) -> Step
+    requires { ⌜ Sure l (now area) × (l .pending ≡ Shut) × Ruled (stateOf l (now area)) h row room × (rowAt row .spans ≡ true) × (at ≤ length (now d)) ⌝ }
+    ensures { λ r. ⌜ stepped r (now (d .entry)) (now (area .exit)) ≡ spanned row h (drop at (now (d .entry))) (stateOf l (now (area .entry))) ⌝ }
+{
+    let len = h.len;
+    if row == TABLE_ROW {
+        let held = l.held;
+        let open = steps::with_open(
+            l,
+            Open::Table {
+                held: 0,
+                missing: len,
+            },
+            held,
+        );
+        return feed::table_fed(open, d, at, len);
+    }
+    steps::record_fed(l, area, d, at, h.tag, 0, len)
+}
+
+fn fits_row(x: Row, room: usize, len: usize) -> bool
+    requires { ⌜ 1 ≤ x .step ⌝ }
+    ensures { λ r. ⌜ r ≡ fitsRow x room len ⌝ }
+{
+    if len < x.least {
+        return false;
+    }
+    if room < len {
+        return false;
+    }
+    len % x.step == 0
+}
+
+// Rules f, g and h; the grouping's header begins at `at`.
+fn from_f(
+    l: Loading,
+    area: &mut [u8],
+    capacity: u8,
+    row: usize,
+    room: usize,
+    h: Head,
+    d: &[u8],
+    at: usize,
+) -> Step
+    requires { ⌜ Sure l (now area) × (l .pending ≡ Shut) × Roomed (stateOf l (now area)) h row room × (at + h .size ≤ length (now d)) ⌝ }
+    ensures { λ r. ⌜ stepped r (now (d .entry)) (now (area .exit)) ≡ fromF capacity row room h (drop at (now (d .entry))) (stateOf l (now (area .entry))) ⌝ }
+{
+    let x = rows::row_at(row);
+    let start = at + h.size;
+    if fits_row(x, room, h.len) {
+        if x.spans {
+            return spanned_at(l, area, row, h, d, start, room);
+        }
+        if h.len <= d.len() - start {
+            return content::whole_at(l, capacity, row, h, d, start);
+        }
+        return content::failed_by(0x6A80, l);
+    }
+    content::failed_by(0x6700, l)
+}
+
+// Rule e: the most bytes that the value may have.
+fn room_of(l: Loading, row: usize, tag: u16) -> Verdict
+    requires { ⌜ (1 ≤ row) × (row ≤ 11) × (l .count ≤ 31) ⌝ }
+    ensures { λ v. ⌜ v ≡ roomOf (fileList l) row tag ⌝ }
+{
+    if row == RECORD_ROW {
+        let spot = places::spot_at(l, tag);
+        match spot {
+            Spot::Nowhere => {
+                return Verdict::Refuses(0x6A88);
+            }
+            Spot::At { base: _, size } => {
+                return Verdict::Passes(size);
+            }
+        }
+    }
+    let x = rows::row_at(row);
+    Verdict::Passes(x.most)
+}
+
+fn from_e(
+    l: Loading,
+    area: &mut [u8],
+    capacity: u8,
+    row: usize,
+    h: Head,
+    d: &[u8],
+    at: usize,
+) -> Step
+    requires { ⌜ Sure l (now area) × (l .pending ≡ Shut) × Dued (stateOf l (now area)) h row × (at + h .size ≤ length (now d)) ⌝ }
+    ensures { λ r. ⌜ stepped r (now (d .entry)) (now (area .exit)) ≡ fromE capacity row h (drop at (now (d .entry))) (stateOf l (now (area .entry))) ⌝ }
+{
+    let verdict = room_of(l, row, h.tag);
+    match verdict {
+        Verdict::Passes(room) => from_f(l, area, capacity, row, room, h, d, at),
+        Verdict::Refuses(w) => content::failed_by(w, l),
+    }
+}
+
+// Rule d and what follows.
+fn from_d(l: Loading, area: &mut [u8], capacity: u8, h: Head, d: &[u8], at: usize) -> Step
+    requires { ⌜ Sure l (now area) × (l .pending ≡ Shut) × (eqb (l .internal) 0x5A ≡ true) × (at + h .size ≤ length (now d)) ⌝ }
+    ensures { λ r. ⌜ stepped r (now (d .entry)) (now (area .exit)) ≡ fromD capacity h (drop at (now (d .entry))) (stateOf l (now (area .entry))) ⌝ }
+{
+    let verdict = rows::due_row(l.rows, l.last, h.tag);
+    match verdict {
+        Verdict::Passes(row) => from_e(l, area, capacity, row, h, d, at),
+        Verdict::Refuses(w) => content::failed_by(w, l),
+    }
+}
+
+// Rule c and what follows: the state becomes '5A' before any later check.
+fn from_c(l: Loading, area: &mut [u8], capacity: u8, h: Head, d: &[u8], at: usize) -> Step
+    requires { ⌜ Sure l (now area) × (l .pending ≡ Shut) × (at + h .size ≤ length (now d)) ⌝ }
+    ensures { λ r. ⌜ stepped r (now (d .entry)) (now (area .exit)) ≡ fromC capacity h (drop at (now (d .entry))) (stateOf l (now (area .entry))) ⌝ }
+{
+    if l.internal == 0xA5 {
+        return content::failed_by(0x6985, l);
+    }
+    let mut next = l;
+    next.internal = 0x5A;
+    from_d(next, area, capacity, h, d, at)
+}
+
+// Rules b to h of a grouping whose header is whole; it begins at `at`.
+fn from_b(l: Loading, area: &mut [u8], capacity: u8, p1: u8, h: Head, d: &[u8], at: usize) -> Step
+    requires { ⌜ Sure l (now area) × (l .pending ≡ Shut) × (at < length (now d)) × (at + h .size ≤ length (now d)) ⌝ }
+    ensures { λ r. ⌜ stepped r (now (d .entry)) (now (area .exit)) ≡ fromB capacity (length (now (d .entry))) p1 h (drop at (now (d .entry))) (stateOf l (now (area .entry))) ⌝ }
+{
+    let tag = h.tag;
+    if queries::is_query(tag) {
+        return queries::queried(l, p1, h, d.len(), at);
+    }
+    from_c(l, area, capacity, h, d, at)
+}
+
+// One grouping, by rules a to h; it begins at `at`.
+pub fn grouping_at(l: Loading, area: &mut [u8], capacity: u8, p1: u8, d: &[u8], at: usize) -> Step
+    requires { ⌜ Sure l (now area) × (l .pending ≡ Shut) × (at < length (now d)) ⌝ }
+    ensures { λ r. ⌜ stepped r (now (d .entry)) (now (area .exit)) ≡ grouping capacity (length (now (d .entry))) p1 (drop at (now (d .entry))) (stateOf l (now (area .entry))) ⌝ }
+{
+    let header = header::header_at(d, at);
+    match header {
+        Header::Whole(h) => from_b(l, area, capacity, p1, h, d, at),
+        Header::Torn => content::failed_by(0x6A80, l),
+    }
+}

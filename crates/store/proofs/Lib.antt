@@ -1,0 +1,3 @@
+pub mod Sure
+pub mod Replies
+pub mod Tellings

@@ -1,0 +1,120 @@
+use mathlib.Core.Path.{_≡_, refl, sym}
+use native.Mathlib.Omega.{arith}
+use lib.ListN.{length, length-append}
+use denote.Ref.{now}
+use borrow.Author.Needs.{needs}
+use Rattle.store.proofs.Tellings.{asks-reference, asks-traceability, asks-states, reference-laid, states-laid}
+use Rattle.store.proofs.lay_answer.Statement.{statement}
+use Rattle.store.proofs.lay_answer.Tie as tie
+
+-- the chip's arrays have their lengths
+reference-long : (s : tie.Start) → length (s .args .c .chip .reference) ≡ 4
+reference-long s = search needs
+
+challenge-long : (s : tie.Start) → length (s .args .c .chip .challenge) ≡ 16
+challenge-long s = search needs
+
+traceability-long : (s : tie.Start) → length (s .args .c .chip .traceability) ≡ 16
+traceability-long s = search needs
+
+slice-aggregate-put-bytes : tie.Need-slice-aggregate-put-bytes
+slice-aggregate-put-bytes c = search needs
+
+put-bytes-requires : tie.Need-put-bytes-requires
+put-bytes-requires c κs = omega (arith, reference-long (c .before .before .before .before .before .before .before))
+
+slice-aggregate-put-bytes-2 : tie.Need-slice-aggregate-put-bytes-2
+slice-aggregate-put-bytes-2 c = search needs
+
+put-bytes-requires-2 : tie.Need-put-bytes-requires-2
+put-bytes-requires-2 c κs =
+    let first = c .before .before .before .before in
+    omega (arith, challenge-long (first .before .before .before .before .before .before .before .before))
+
+same-length : tie.Need-same-length
+same-length c = search needs
+
+returns : tie.Need-returns
+returns c =
+    let second = c .before .before in
+    let first = second .before .before .before .before .before in
+    let tested = first .before .before .before .before .before in
+    let s = tested .before .before .before in
+    rw (asks-reference (s .args .c) (s .args .tag) (tested .if1 .taken)) (
+      rw length-append (omega (arith, reference-long s, challenge-long s)),
+      reference-laid (now (s .args .answer)) _ _ (reference-long s) (first .put-bytes .ensures) (second .put-bytes2 .ensures),
+    )
+
+slice-aggregate-put-bytes-3 : tie.Need-slice-aggregate-put-bytes-3
+slice-aggregate-put-bytes-3 c = search needs
+
+put-bytes-requires-3 : tie.Need-put-bytes-requires-3
+put-bytes-requires-3 c κs = omega (arith, traceability-long (c .before .before .before .before .before .before .before))
+
+same-length-2 : tie.Need-same-length-2
+same-length-2 c = search needs
+
+returns-2 : tie.Need-returns-2
+returns-2 c =
+    let laid = c .before .before in
+    let second = laid .before .before .before .before in
+    let first = second .before in
+    let s = first .before .before .before in
+    rw (asks-traceability (s .args .c) (s .args .tag) (first .if1 .left) (second .if2 .taken)) (sym (traceability-long s), laid .put-bytes3 .ensures)
+
+slice-aggregate-put-bytes-4 : tie.Need-slice-aggregate-put-bytes-4
+slice-aggregate-put-bytes-4 c = search needs
+
+put-bytes-requires-4 : tie.Need-put-bytes-requires-4
+put-bytes-requires-4 c κs = search needs
+
+put-byte-requires : tie.Need-put-byte-requires
+put-byte-requires c κs = search needs
+
+slice-aggregate-put-bytes-5 : tie.Need-slice-aggregate-put-bytes-5
+slice-aggregate-put-bytes-5 c = search needs
+
+put-bytes-requires-5 : tie.Need-put-bytes-requires-5
+put-bytes-requires-5 c κs = search needs
+
+put-byte-requires-2 : tie.Need-put-byte-requires-2
+put-byte-requires-2 c κs = search needs
+
+same-length-3 : tie.Need-same-length-3
+same-length-3 c = search needs
+
+returns-3 : tie.Need-returns-3
+returns-3 c =
+    let fourth = c .before .before in
+    let third = fourth .before .before .before .before in
+    let second = third .before .before .before .before .before in
+    let first = second .before .before .before .before in
+    let tested = first .before .before .before in
+    let s = tested .before .before .before .before in
+    rw (asks-states (s .args .c) (s .args .tag) (tested .before .if1 .left) (tested .if2 .left)) (
+      refl,
+      states-laid (now (s .args .answer)) _ _ (first .put-bytes4 .ensures) (second .put-byte .ensures) (third .put-bytes5 .ensures) (fourth .put-byte2 .ensures),
+    )
+
+pub lay-answer-spec : {M : Type 1} → statement M
+lay-answer-spec =
+    tie.close
+    (tie.spec
+    slice-aggregate-put-bytes
+    put-bytes-requires
+    slice-aggregate-put-bytes-2
+    put-bytes-requires-2
+    same-length
+    returns
+    slice-aggregate-put-bytes-3
+    put-bytes-requires-3
+    same-length-2
+    returns-2
+    slice-aggregate-put-bytes-4
+    put-bytes-requires-4
+    put-byte-requires
+    slice-aggregate-put-bytes-5
+    put-bytes-requires-5
+    put-byte-requires-2
+    same-length-3
+    returns-3)

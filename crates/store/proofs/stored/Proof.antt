@@ -1,0 +1,72 @@
+use Prim.Native.Nat.{ℕ, suc, _+_, _*_, _-_, _≤_, _<_, _/_, _%_}
+use mathlib.Core.Path.{_≡_, refl, ap, sym, _∙_}
+use mathlib.Core.List.{List, [], _∷_, _++_}
+use native.Mathlib.Omega.{arith}
+use native.Mathlib.Numerals.{add-one}
+use lib.ListN.{length, take, drop, set, getD, length-set, length-take, length-drop, length-append}
+use denote.Ref.{now}
+use borrow.Author.Needs.{needs}
+use Rattle.store.proofs.Replies.{store-empty, store-command, store-unselected}
+use borrow.Author.Tests.{eq-eqb, ne-eqb}
+use Rattle.select.specs.Answers.{said}
+use Rattle.store.proofs.Replies.{errs-told, course-told}
+use Rattle.store.proofs.Sure.{good-sure}
+use Rattle.model.specs.Events.{storeData}
+use Rattle.store.proofs.stored.Statement.{statement}
+use Rattle.store.proofs.stored.Tie as tie
+use Rattle.store.proofs.stored.Reads as reads
+use Rattle.store.proofs.stored.Lts as lts
+use Rattle.store.proofs.failed_by.Reads as failed-by-reads
+use Rattle.store.proofs.told_of.Reads as told-of-reads
+use Rattle.store.proofs.with_loading.Reads as with-loading-reads
+use Rattle.load.proofs.commanded.Reads as commanded-reads
+
+failed-by-requires : tie.Need-failed-by-requires
+failed-by-requires c κs = search needs
+
+returns : tie.Need-returns
+returns c =
+    let s = c .before .before .before .before .before .before .before .args in
+    rw (store-empty (s .p1) (now (s .d)) (s .c) (now (s .area)) (c .before .before .if1 .taken) (c .before .if2 .taken)) (errs-told 0x6700 (s .c) _ _ (c .failed-by .result) (c .failed-by .ensures))
+
+commanded-requires : tie.Need-commanded-requires
+commanded-requires c κs =
+    good-sure (c .before .before .before .before .before .before .before .before .before .args .c) (now (c .before .before .before .before .before .before .before .before .before .args .area)) (c .before .before .before .before .before .before .before .before .before .pre .0) (c .before .before .before .before .if1 .taken)
+
+with-loading-requires : tie.Need-with-loading-requires
+with-loading-requires c κs = search needs
+
+told-of-requires : tie.Need-told-of-requires
+told-of-requires c κs =
+    c .before .before .before .before .before .before .before .before .before .before .before .before .before .before .before .pre .1
+
+same-length : tie.Need-same-length
+same-length c = search needs
+
+same-length-2 : tie.Need-same-length-2
+same-length-2 c = search needs
+
+returns-2 : tie.Need-returns-2
+returns-2 c =
+    let s = c .before .before .before .before .before .before .before .before .before .before .before .before .before .before .before .before .before .before .args in
+    rw (store-command (s .p1) (now (s .d)) (s .c) (now (s .area)) (c .before .before .before .before .before .before .before .before .before .before .before .before .before .if1 .taken) (c .before .before .before .before .before .before .before .before .before .before .before .before .if2 .left), ← c .before .before .before .before .before .before .before .before .commanded .ensures)
+    (course-told (s .c) (c .before .before .before .before .before .before .before .before .commanded .result) _ _ _ _ _ _ _ (c .before .before .before .before .with-loading .ensures) (c .before .before .told-of .ensures _))
+
+returns-3 : tie.Need-returns-3
+returns-3 c =
+    let s = c .before .before .before .before .before .args in
+    rw (store-unselected (s .p1) (now (s .d)) (s .c) (now (s .area)) (c .if1 .left)) (said _ _ _ _)
+
+pub stored-spec : {M : Type 1} → statement M
+stored-spec =
+    tie.close
+    (tie.spec
+    failed-by-requires
+    returns
+    commanded-requires
+    with-loading-requires
+    told-of-requires
+    same-length
+    same-length-2
+    returns-2
+    returns-3)
