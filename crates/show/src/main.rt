@@ -16,7 +16,7 @@ ghost use Rattle.lists.specs.Bytes.{zeros};
 ghost use Rattle.model.specs.Stored.{areaSize};
 ghost use Rattle.soundness.specs.Keeps.{Good};
 
-// 252 records. Their register lines are made and dropped.
+// 252 records. `register` plays them, and the lines that it makes are dropped.
 const BLOCK_SIZE: usize = 65520;
 
 const HEX_LINE: usize = 32;
@@ -34,6 +34,21 @@ const FIRST_SECRET_ROW: usize = 6;
 
 const SECRETS: usize = 5;
 
+// The life cycle's values, GP. The absent card has '00'.
+const INSTALLED: u8 = 0x03;
+
+const SELECTABLE: u8 = 0x07;
+
+const LOCKED_INSTALLED: u8 = 0x83;
+
+const LOCKED_SELECTABLE: u8 = 0x87;
+
+// The internal state's. Before loading it is 'CC'.
+const PERSONALIZING: u8 = 0x5A;
+
+const PERSONALIZED: u8 = 0xA5;
+
+// FileType and EFType. A counters file is '09', the last type.
 const DF: u8 = 0x02;
 
 const BINARY: u8 = 0x01;
@@ -44,15 +59,16 @@ const CYCLIC: u8 = 0x04;
 
 const SIMULATED: u8 = 0x08;
 
-const COUNTERS: u8 = 0x09;
-
+// Access conditions, and the keys of SESSION. ALWAYS is '1F', and the third key is Debit/Validation.
 const NEVER: u8 = 0x00;
 
 const PIN: u8 = 0x01;
 
 const SESSION: u8 = 0x10;
 
-const ALWAYS: u8 = 0x1F;
+const ISSUER_KEY: u8 = 1;
+
+const LOAD_KEY: u8 = 2;
 
 const FILE_TABLE_TAG: u16 = 0x3100;
 
@@ -216,16 +232,16 @@ fn put_cycle(out: &mut [u8], at: usize, gp: u8) -> usize
     requires { ⌜ at ≤ length (now out) ⌝ }
     ensures { λ r. ⌜ r ≤ length (now (out .exit)) ⌝ }
 {
-    if gp == 0x03 {
+    if gp == INSTALLED {
         return put(out, at, b" installed");
     }
-    if gp == 0x07 {
+    if gp == SELECTABLE {
         return put(out, at, b" selectable");
     }
-    if gp == 0x83 {
+    if gp == LOCKED_INSTALLED {
         return put(out, at, b" locked from installed");
     }
-    if gp == 0x87 {
+    if gp == LOCKED_SELECTABLE {
         return put(out, at, b" locked from selectable");
     }
     put(out, at, b" absent")
@@ -258,10 +274,10 @@ fn put_state(out: &mut [u8], at: usize, internal: u8) -> usize
     requires { ⌜ at ≤ length (now out) ⌝ }
     ensures { λ r. ⌜ r ≤ length (now (out .exit)) ⌝ }
 {
-    if internal == 0x5A {
+    if internal == PERSONALIZING {
         return put(out, at, b" PERSONALIZING");
     }
-    if internal == 0xA5 {
+    if internal == PERSONALIZED {
         return put(out, at, b" PERSONALIZED");
     }
     put(out, at, b" NOT_PERSONALIZED, before loading")
@@ -276,7 +292,7 @@ fn put_internal(out: &mut [u8], at: usize, internal: u8) -> usize
     put_state(out, code, internal)
 }
 
-// The number of events by its last five digits, as the register's last line has it.
+// The number of events by its last five digits: those of the register's last line, behind its END.
 fn put_events(out: &mut [u8], at: usize, count: u64) -> usize
     requires { ⌜ at ≤ length (now out) ⌝ }
     ensures { λ r. ⌜ r ≤ length (now (out .exit)) ⌝ }
@@ -494,10 +510,10 @@ fn put_key(out: &mut [u8], at: usize, key: u8) -> usize
     requires { ⌜ at ≤ length (now out) ⌝ }
     ensures { λ x. ⌜ x ≤ length (now (out .exit)) ⌝ }
 {
-    if key == 1 {
+    if key == ISSUER_KEY {
         return put(out, at, b"key 1 (Issuer key)");
     }
-    if key == 2 {
+    if key == LOAD_KEY {
         return put(out, at, b"key 2 (Load key)");
     }
     put(out, at, b"key 3 (Debit/Validation key)")
