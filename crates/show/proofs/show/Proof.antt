@@ -1,0 +1,69 @@
+use mathlib.Core.Path.{sym}
+use denote.Ref.{now}
+use borrow.Author.Needs.{needs}
+use Rattle.soundness.proofs.Sessions.{fresh-keeps}
+use Rattle.show.proofs.show.Statement.{statement}
+use Rattle.show.proofs.show.Tie as tie
+
+fresh-requires : tie.Need-fresh-requires
+fresh-requires c κs = search needs
+
+slice-aggregate-write-all : tie.Need-slice-aggregate-write-all
+slice-aggregate-write-all c = search needs
+
+write-all-requires : tie.Need-write-all-requires
+write-all-requires c κs = search needs
+
+returns : tie.Need-returns
+returns c = search needs
+
+clear-area-requires : tie.Need-clear-area-requires
+clear-area-requires c κs = search needs
+
+block-buffer-requires : tie.Need-block-buffer-requires
+block-buffer-requires c κs = search needs
+
+line-buffer-requires : tie.Need-line-buffer-requires
+line-buffer-requires c κs = search needs
+
+slice-aggregate-play-all : tie.Need-slice-aggregate-play-all
+slice-aggregate-play-all c = search needs
+
+slice-aggregate-play-all-2 : tie.Need-slice-aggregate-play-all-2
+slice-aggregate-play-all-2 c = search needs
+
+slice-aggregate-play-all-3 : tie.Need-slice-aggregate-play-all-3
+slice-aggregate-play-all-3 c = search needs
+
+play-all-requires : tie.Need-play-all-requires
+play-all-requires c κs =
+    let chip = now (c .before .before .before .before .before .before .before .before .before .before .before .args .chip) in
+    (rw (c .before .before .before .before .before .before .before .before .before .fresh .ensures, c .before .before .before .before .before .clear-area .ensures .0) (fresh-keeps chip), sym (c .before .before .before .before .block-buffer .ensures), sym (c .before .before .before .line-buffer .ensures))
+
+slice-aggregate-show-card : tie.Need-slice-aggregate-show-card
+slice-aggregate-show-card c = search needs
+
+show-card-requires : tie.Need-show-card-requires
+show-card-requires c κs = search needs
+
+returns-2 : tie.Need-returns-2
+returns-2 c = search needs
+
+pub show-spec : {M : Type 1} → statement M
+show-spec =
+    tie.close
+    (tie.spec
+    fresh-requires
+    slice-aggregate-write-all
+    write-all-requires
+    returns
+    clear-area-requires
+    block-buffer-requires
+    line-buffer-requires
+    slice-aggregate-play-all
+    slice-aggregate-play-all-2
+    slice-aggregate-play-all-3
+    play-all-requires
+    slice-aggregate-show-card
+    show-card-requires
+    returns-2)

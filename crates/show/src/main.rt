@@ -1,0 +1,890 @@
+// The program `show`: what `replay` reads, and at its end the card in words, for people.
+// It streams: any number of events, in the memory of one block.
+use libc::STDIN_FILENO;
+use libc::STDOUT_FILENO;
+use model::Card;
+use model::Descriptor;
+use model::Life;
+use model::Loading;
+use model::Open;
+use model::Secret;
+use model::Spot;
+ghost use mathlib.Core.Path.{_≡_};
+ghost use Prim.Native.Nat.{_≤_, _<_};
+ghost use lib.ListN.{length};
+ghost use Rattle.lists.specs.Bytes.{zeros};
+ghost use Rattle.model.specs.Stored.{areaSize};
+ghost use Rattle.soundness.specs.Keeps.{Good};
+
+// 252 records. `register` plays them, and the lines that it makes are dropped.
+const BLOCK_SIZE: usize = 65520;
+
+const HEX_LINE: usize = 32;
+
+const NAME_LIMIT: usize = 16;
+
+const TABLE_LIMIT: usize = 31;
+
+const ROW_COUNT: usize = 11;
+
+const RECORD_ROW: usize = 11;
+
+// '3800' is row 6; the secrets are those of rows 6 to 10.
+const FIRST_SECRET_ROW: usize = 6;
+
+const SECRETS: usize = 5;
+
+// The life cycle's values, GP. The absent card has '00'.
+const INSTALLED: u8 = 0x03;
+
+const SELECTABLE: u8 = 0x07;
+
+const LOCKED_INSTALLED: u8 = 0x83;
+
+const LOCKED_SELECTABLE: u8 = 0x87;
+
+// The internal state's. Before loading it is 'CC'.
+const PERSONALIZING: u8 = 0x5A;
+
+const PERSONALIZED: u8 = 0xA5;
+
+// FileType and EFType. A counters file is '09', the last type.
+const DF: u8 = 0x02;
+
+const BINARY: u8 = 0x01;
+
+const LINEAR: u8 = 0x02;
+
+const CYCLIC: u8 = 0x04;
+
+const SIMULATED: u8 = 0x08;
+
+// Access conditions, and the keys of SESSION. ALWAYS is '1F', and the third key is Debit/Validation.
+const NEVER: u8 = 0x00;
+
+const PIN: u8 = 0x01;
+
+const SESSION: u8 = 0x10;
+
+const ISSUER_KEY: u8 = 1;
+
+const LOAD_KEY: u8 = 2;
+
+const FILE_TABLE_TAG: u16 = 0x3100;
+
+const ACCESSES: usize = 4;
+
+const DOT: u8 = 0x2E;
+
+fn at_most(n: usize, most: usize) -> usize
+    ensures { λ r. ⌜ (r ≤ most) × (r ≤ n) ⌝ }
+{
+    if n <= most {
+        return n;
+    }
+    most
+}
+
+// Every `put` function writes into the buffer from `at` on and gives the place behind. A buffer that has no room left is
+// written out first, so no caller counts characters.
+fn put(out: &mut [u8], at: usize, text: &[u8]) -> usize
+    requires { ⌜ at ≤ length (now out) ⌝ }
+    ensures { λ r. ⌜ r ≤ length (now (out .exit)) ⌝ }
+{
+    if text.len() <= out.len() - at {
+        slices::put_bytes(out, at, text);
+        return at + text.len();
+    }
+    io::write_all(STDOUT_FILENO, &out[..at]);
+    if text.len() <= out.len() {
+        slices::put_bytes(out, 0, text);
+        return text.len();
+    }
+    io::write_all(STDOUT_FILENO, text); // longer than the buffer is
+    0
+}
+
+fn put_number(out: &mut [u8], at: usize, n: u64) -> usize
+    requires { ⌜ at ≤ length (now out) ⌝ }
+    ensures { λ r. ⌜ r ≤ length (now (out .exit)) ⌝ }
+{
+    let mut digits = [0u8; 20];
+    let k = lines::put_number(&mut digits, 0, n);
+    put(out, at, &digits[..k])
+}
+
+// So many of something: 1 record, 3 records.
+fn put_many(out: &mut [u8], at: usize, n: u64, what: &[u8]) -> usize
+    requires { ⌜ at ≤ length (now out) ⌝ }
+    ensures { λ r. ⌜ r ≤ length (now (out .exit)) ⌝ }
+{
+    let number = put_number(out, at, n);
+    let gap = put(out, number, b" ");
+    let noun = put(out, gap, what);
+    if n == 1 {
+        return noun;
+    }
+    put(out, noun, b"s")
+}
+
+// A line's worth of bytes in hexadecimal, or fewer where there are fewer.
+fn put_hex(out: &mut [u8], at: usize, bytes: &[u8]) -> usize
+    requires { ⌜ at ≤ length (now out) ⌝ }
+    ensures { λ r. ⌜ r ≤ length (now (out .exit)) ⌝ }
+{
+    let mut digits = [0u8; 64];
+    let n = at_most(bytes.len(), HEX_LINE);
+    lines::put_hex(&mut digits, 0, &bytes[..n]);
+    put(out, at, &digits[..2 * n])
+}
+
+// Bytes as the paper quotes them.
+fn put_quoted(out: &mut [u8], at: usize, bytes: &[u8]) -> usize
+    requires { ⌜ at ≤ length (now out) ⌝ }
+    ensures { λ r. ⌜ r ≤ length (now (out .exit)) ⌝ }
+{
+    let first = put(out, at, b"'");
+    let last = put_hex(out, first, bytes);
+    put(out, last, b"'")
+}
+
+fn put_byte(out: &mut [u8], at: usize, b: u8) -> usize
+    requires { ⌜ at ≤ length (now out) ⌝ }
+    ensures { λ r. ⌜ r ≤ length (now (out .exit)) ⌝ }
+{
+    let bytes = [b];
+    put_quoted(out, at, &bytes)
+}
+
+fn put_word(out: &mut [u8], at: usize, w: u16) -> usize
+    requires { ⌜ at ≤ length (now out) ⌝ }
+    ensures { λ r. ⌜ r ≤ length (now (out .exit)) ⌝ }
+{
+    let bytes = [(w / 256) as u8, (w % 256) as u8];
+    put_quoted(out, at, &bytes)
+}
+
+// Bytes in hexadecimal, as many lines as they need.
+fn put_dump(out: &mut [u8], at: usize, bytes: &[u8]) -> usize
+    requires { ⌜ at ≤ length (now out) ⌝ }
+    ensures { λ r. ⌜ r ≤ length (now (out .exit)) ⌝ }
+{
+    let mut to = at;
+    let mut i: usize = 0;
+    while i < bytes.len() {
+        to = put(out, to, b"      ");
+        to = put_hex(out, to, &bytes[i..]);
+        to = put(out, to, b"\n");
+        i += HEX_LINE;
+    }
+    to
+}
+
+// A printable character as it is, any other byte as a dot.
+fn character(b: u8) -> u8 {
+    if b < 0x20 {
+        return DOT;
+    }
+    if 0x7E < b {
+        return DOT;
+    }
+    b
+}
+
+fn put_characters(out: &mut [u8], at: usize, bytes: &[u8]) -> usize
+    requires { ⌜ at ≤ length (now out) ⌝ }
+    ensures { λ r. ⌜ r ≤ length (now (out .exit)) ⌝ }
+{
+    let mut to = at;
+    let mut i: usize = 0;
+    while i < bytes.len() {
+        let one = [character(bytes[i])];
+        to = put(out, to, &one);
+        i += 1;
+    }
+    to
+}
+
+// The name as text, and in hexadecimal.
+fn put_name(out: &mut [u8], at: usize, name: &[u8]) -> usize
+    requires { ⌜ at ≤ length (now out) ⌝ }
+    ensures { λ r. ⌜ r ≤ length (now (out .exit)) ⌝ }
+{
+    if name.len() == 0 {
+        return put(out, at, b"none");
+    }
+    let text = put_characters(out, at, name);
+    let gap = put(out, text, b" ");
+    put_quoted(out, gap, name)
+}
+
+fn put_name_line(out: &mut [u8], at: usize, name: [u8; 16], n: usize) -> usize
+    requires { ⌜ at ≤ length (now out) ⌝ }
+    ensures { λ r. ⌜ r ≤ length (now (out .exit)) ⌝ }
+{
+    let k = at_most(n, NAME_LIMIT);
+    let label = put(out, at, b"Card\n  name            ");
+    put_name(out, label, &name[..k])
+}
+
+// The life cycle, GP, in words. Here and below a sound card has no other values than those named: the last needs no test.
+fn put_cycle(out: &mut [u8], at: usize, gp: u8) -> usize
+    requires { ⌜ at ≤ length (now out) ⌝ }
+    ensures { λ r. ⌜ r ≤ length (now (out .exit)) ⌝ }
+{
+    if gp == INSTALLED {
+        return put(out, at, b" installed");
+    }
+    if gp == SELECTABLE {
+        return put(out, at, b" selectable");
+    }
+    if gp == LOCKED_INSTALLED {
+        return put(out, at, b" locked from installed");
+    }
+    if gp == LOCKED_SELECTABLE {
+        return put(out, at, b" locked from selectable");
+    }
+    put(out, at, b" absent")
+}
+
+fn put_selected(out: &mut [u8], at: usize, selected: bool) -> usize
+    requires { ⌜ at ≤ length (now out) ⌝ }
+    ensures { λ r. ⌜ r ≤ length (now (out .exit)) ⌝ }
+{
+    if selected {
+        return put(out, at, b", selected");
+    }
+    put(out, at, b", not selected")
+}
+
+fn put_life(out: &mut [u8], at: usize, life: Life) -> usize
+    requires { ⌜ at ≤ length (now out) ⌝ }
+    ensures { λ r. ⌜ r ≤ length (now (out .exit)) ⌝ }
+{
+    let name = life.name;
+    let named = put_name_line(out, at, name, life.namelen);
+    let label = put(out, named, b"\n  life cycle      ");
+    let code = put_byte(out, label, life.gp);
+    let cycle = put_cycle(out, code, life.gp);
+    put_selected(out, cycle, life.selected)
+}
+
+// The internal state in words.
+fn put_state(out: &mut [u8], at: usize, internal: u8) -> usize
+    requires { ⌜ at ≤ length (now out) ⌝ }
+    ensures { λ r. ⌜ r ≤ length (now (out .exit)) ⌝ }
+{
+    if internal == PERSONALIZING {
+        return put(out, at, b" PERSONALIZING");
+    }
+    if internal == PERSONALIZED {
+        return put(out, at, b" PERSONALIZED");
+    }
+    put(out, at, b" NOT_PERSONALIZED, before loading")
+}
+
+fn put_internal(out: &mut [u8], at: usize, internal: u8) -> usize
+    requires { ⌜ at ≤ length (now out) ⌝ }
+    ensures { λ r. ⌜ r ≤ length (now (out .exit)) ⌝ }
+{
+    let label = put(out, at, b"\n  internal state  ");
+    let code = put_byte(out, label, internal);
+    put_state(out, code, internal)
+}
+
+// The number of events by its last five digits: those of the register's last line, behind its END.
+fn put_events(out: &mut [u8], at: usize, count: u64) -> usize
+    requires { ⌜ at ≤ length (now out) ⌝ }
+    ensures { λ r. ⌜ r ≤ length (now (out .exit)) ⌝ }
+{
+    let mut end = [0u8; 10];
+    lines::put_end(&mut end, 0, count);
+    let label = put(out, at, b"\n  events          ");
+    put(out, label, &end[4..9])
+}
+
+fn put_serial(out: &mut [u8], at: usize, serial: [u8; 8]) -> usize
+    requires { ⌜ at ≤ length (now out) ⌝ }
+    ensures { λ r. ⌜ r ≤ length (now (out .exit)) ⌝ }
+{
+    let label = put(out, at, b"\n  serial number   ");
+    put_quoted(out, label, &serial)
+}
+
+// What the first byte of the startup information says; it is at least 6 once loaded.
+fn put_modifications(out: &mut [u8], at: usize, n: u8) -> usize
+    requires { ⌜ at ≤ length (now out) ⌝ }
+    ensures { λ r. ⌜ r ≤ length (now (out .exit)) ⌝ }
+{
+    if n == 0 {
+        return put(out, at, b", not loaded");
+    }
+    let gap = put(out, at, b", ");
+    let most = put_many(out, gap, n as u64, b"modification");
+    put(out, most, b" in a session at most")
+}
+
+fn put_startup(out: &mut [u8], at: usize, startup: [u8; 7]) -> usize
+    requires { ⌜ at ≤ length (now out) ⌝ }
+    ensures { λ r. ⌜ r ≤ length (now (out .exit)) ⌝ }
+{
+    let label = put(out, at, b"\n  startup         ");
+    let code = put_quoted(out, label, &startup);
+    put_modifications(out, code, startup[0])
+}
+
+fn put_counter(out: &mut [u8], at: usize, counter: u32) -> usize
+    requires { ⌜ at ≤ length (now out) ⌝ }
+    ensures { λ r. ⌜ r ≤ length (now (out .exit)) ⌝ }
+{
+    let label = put(out, at, b"\n  counter         ");
+    put_number(out, label, counter as u64)
+}
+
+fn put_missing(out: &mut [u8], at: usize, tag: u16, missing: usize) -> usize
+    requires { ⌜ at ≤ length (now out) ⌝ }
+    ensures { λ r. ⌜ r ≤ length (now (out .exit)) ⌝ }
+{
+    let code = put_word(out, at, tag);
+    let gap = put(out, code, b", ");
+    let bytes = put_many(out, gap, missing as u64, b"byte");
+    put(out, bytes, b" still missing")
+}
+
+fn put_pending(out: &mut [u8], at: usize, pending: Open) -> usize
+    requires { ⌜ at ≤ length (now out) ⌝ }
+    ensures { λ r. ⌜ r ≤ length (now (out .exit)) ⌝ }
+{
+    match pending {
+        Open::Shut => put(out, at, b"none"),
+        Open::Table { held: _, missing } => put_missing(out, at, FILE_TABLE_TAG, missing),
+        Open::Record {
+            tag,
+            written: _,
+            missing,
+        } => put_missing(out, at, tag, missing),
+    }
+}
+
+fn put_open(out: &mut [u8], at: usize, pending: Open) -> usize
+    requires { ⌜ at ≤ length (now out) ⌝ }
+    ensures { λ r. ⌜ r ≤ length (now (out .exit)) ⌝ }
+{
+    let label = put(out, at, b"\n  open value      ");
+    put_pending(out, label, pending)
+}
+
+// Serial number, startup, counter, open value.
+fn put_facts(out: &mut [u8], at: usize, l: Loading) -> usize
+    requires { ⌜ at ≤ length (now out) ⌝ }
+    ensures { λ r. ⌜ r ≤ length (now (out .exit)) ⌝ }
+{
+    let serial = l.serial;
+    let startup = l.startup;
+    let pending = l.pending;
+    let first = put_serial(out, at, serial);
+    let second = put_startup(out, first, startup);
+    let third = put_counter(out, second, l.counter);
+    put_open(out, third, pending)
+}
+
+// What rows 1 to 5 are.
+fn put_fact_row(out: &mut [u8], at: usize, r: usize) -> usize
+    requires { ⌜ at ≤ length (now out) ⌝ }
+    ensures { λ x. ⌜ x ≤ length (now (out .exit)) ⌝ }
+{
+    if r == 1 {
+        return put(out, at, b"\n  '9484' challenge");
+    }
+    if r == 2 {
+        return put(out, at, b"\n  '2000' serial number");
+    }
+    if r == 3 {
+        return put(out, at, b"\n  '2100' startup information");
+    }
+    if r == 4 {
+        return put(out, at, b"\n  '2200' transaction counter");
+    }
+    put(out, at, b"\n  '3100' file table")
+}
+
+// What rows 6 to 10 are: those of the secrets.
+fn put_secret_row(out: &mut [u8], at: usize, r: usize) -> usize
+    requires { ⌜ at ≤ length (now out) ⌝ }
+    ensures { λ x. ⌜ x ≤ length (now (out .exit)) ⌝ }
+{
+    if r == 6 {
+        return put(out, at, b"\n  '3800' activation parameters");
+    }
+    if r == 7 {
+        return put(out, at, b"\n  '4101' Issuer key");
+    }
+    if r == 8 {
+        return put(out, at, b"\n  '4102' Load key");
+    }
+    if r == 9 {
+        return put(out, at, b"\n  '4103' Debit key");
+    }
+    put(out, at, b"\n  '4104' PIN")
+}
+
+fn put_row(out: &mut [u8], at: usize, r: usize, last: u16) -> usize
+    requires { ⌜ at ≤ length (now out) ⌝ }
+    ensures { λ x. ⌜ x ≤ length (now (out .exit)) ⌝ }
+{
+    if r < FIRST_SECRET_ROW {
+        return put_fact_row(out, at, r);
+    }
+    if r < RECORD_ROW {
+        return put_secret_row(out, at, r);
+    }
+    let to = put(out, at, b"\n  'ssnn' file contents, last ");
+    put_word(out, to, last)
+}
+
+// A row's line, where it is taken.
+fn put_taken(out: &mut [u8], at: usize, r: usize, rows: u16, last: u16) -> usize
+    requires { ⌜ (at ≤ length (now out)) × (1 ≤ r) × (r ≤ 11) ⌝ }
+    ensures { λ x. ⌜ x ≤ length (now (out .exit)) ⌝ }
+{
+    if rows::is_taken(rows, r) {
+        return put_row(out, at, r, last);
+    }
+    at
+}
+
+fn put_rows(out: &mut [u8], at: usize, rows: u16, last: u16) -> usize
+    requires { ⌜ at ≤ length (now out) ⌝ }
+    ensures { λ x. ⌜ x ≤ length (now (out .exit)) ⌝ }
+{
+    let mut to = at;
+    let mut r: usize = 0;
+    while r < ROW_COUNT {
+        r += 1;
+        to = put_taken(out, to, r, rows, last);
+    }
+    to
+}
+
+// A secret's length, and no byte of it.
+fn put_length(out: &mut [u8], at: usize, i: usize, n: usize) -> usize
+    requires { ⌜ (at ≤ length (now out)) × (i < 5) ⌝ }
+    ensures { λ x. ⌜ x ≤ length (now (out .exit)) ⌝ }
+{
+    let name = put_secret_row(out, at, FIRST_SECRET_ROW + i);
+    let gap = put(out, name, b": ");
+    if n == 0 {
+        return put(out, gap, b"none");
+    }
+    put_many(out, gap, n as u64, b"byte")
+}
+
+fn put_lengths(out: &mut [u8], at: usize, secrets: [Secret; 5]) -> usize
+    requires { ⌜ at ≤ length (now out) ⌝ }
+    ensures { λ x. ⌜ x ≤ length (now (out .exit)) ⌝ }
+{
+    let mut to = at;
+    let mut i: usize = 0;
+    while i < SECRETS {
+        let s = secrets[i];
+        to = put_length(out, to, i, s.len);
+        i += 1;
+    }
+    to
+}
+
+// The rows taken with their count, and the secrets' lengths.
+fn put_loaded(out: &mut [u8], at: usize, l: Loading, taken: u32) -> usize
+    requires { ⌜ at ≤ length (now out) ⌝ }
+    ensures { λ x. ⌜ x ≤ length (now (out .exit)) ⌝ }
+{
+    let secrets = l.secrets;
+    let label = put(out, at, b"\n\nRows taken: ");
+    let number = put_number(out, label, taken as u64);
+    let rows = put_rows(out, number, l.rows, l.last);
+    let title = put(out, rows, b"\n\nSecrets, their lengths only");
+    put_lengths(out, title, secrets)
+}
+
+fn put_key(out: &mut [u8], at: usize, key: u8) -> usize
+    requires { ⌜ at ≤ length (now out) ⌝ }
+    ensures { λ x. ⌜ x ≤ length (now (out .exit)) ⌝ }
+{
+    if key == ISSUER_KEY {
+        return put(out, at, b"key 1 (Issuer key)");
+    }
+    if key == LOAD_KEY {
+        return put(out, at, b"key 2 (Load key)");
+    }
+    put(out, at, b"key 3 (Debit/Validation key)")
+}
+
+// An access condition, with its key where it has one.
+fn put_access(out: &mut [u8], at: usize, ac: u8, key: u8) -> usize
+    requires { ⌜ at ≤ length (now out) ⌝ }
+    ensures { λ x. ⌜ x ≤ length (now (out .exit)) ⌝ }
+{
+    if ac == SESSION {
+        let to = put(out, at, b"SESSION with ");
+        return put_key(out, to, key);
+    }
+    if ac == NEVER {
+        return put(out, at, b"NEVER");
+    }
+    if ac == PIN {
+        return put(out, at, b"PIN");
+    }
+    put(out, at, b"ALWAYS")
+}
+
+// What parts an access condition from the one before.
+fn put_gap(out: &mut [u8], at: usize, i: usize) -> usize
+    requires { ⌜ at ≤ length (now out) ⌝ }
+    ensures { λ x. ⌜ x ≤ length (now (out .exit)) ⌝ }
+{
+    if i == 0 {
+        return at;
+    }
+    put(out, at, b"; ")
+}
+
+fn put_accesses(out: &mut [u8], at: usize, ac: [u8; 4], nkey: [u8; 4]) -> usize
+    requires { ⌜ at ≤ length (now out) ⌝ }
+    ensures { λ x. ⌜ x ≤ length (now (out .exit)) ⌝ }
+{
+    let mut to = at;
+    let mut i: usize = 0;
+    while i < ACCESSES {
+        to = put_gap(out, to, i);
+        to = put_access(out, to, ac[i], nkey[i]);
+        i += 1;
+    }
+    to
+}
+
+// An EF's type in words.
+fn put_type(out: &mut [u8], at: usize, eftype: u8) -> usize
+    requires { ⌜ at ≤ length (now out) ⌝ }
+    ensures { λ x. ⌜ x ≤ length (now (out .exit)) ⌝ }
+{
+    if eftype == BINARY {
+        return put(out, at, b", binary file, ");
+    }
+    if eftype == LINEAR {
+        return put(out, at, b", linear file, ");
+    }
+    if eftype == CYCLIC {
+        return put(out, at, b", cyclic file, ");
+    }
+    if eftype == SIMULATED {
+        return put(out, at, b", simulated counter file, ");
+    }
+    put(out, at, b", counters file, ")
+}
+
+// A binary file's size, or the number and size of the records.
+fn put_sizes(out: &mut [u8], at: usize, d: Descriptor) -> usize
+    requires { ⌜ at ≤ length (now out) ⌝ }
+    ensures { λ x. ⌜ x ≤ length (now (out .exit)) ⌝ }
+{
+    if d.eftype == BINARY {
+        return put_many(out, at, table::size_of(d) as u64, b"byte");
+    }
+    let number = put_many(out, at, d.numrec as u64, b"record");
+    let of = put(out, number, b" of ");
+    put_many(out, of, d.recsize as u64, b"byte")
+}
+
+fn put_sfi(out: &mut [u8], at: usize, sfi: u8) -> usize
+    requires { ⌜ at ≤ length (now out) ⌝ }
+    ensures { λ x. ⌜ x ≤ length (now (out .exit)) ⌝ }
+{
+    if sfi == 0 {
+        return put(out, at, b", EF, no SFI");
+    }
+    let label = put(out, at, b", EF, SFI ");
+    put_byte(out, label, sfi)
+}
+
+fn put_df(out: &mut [u8], at: usize, status: u8) -> usize
+    requires { ⌜ at ≤ length (now out) ⌝ }
+    ensures { λ x. ⌜ x ≤ length (now (out .exit)) ⌝ }
+{
+    if status == 0 {
+        return put(out, at, b", DF, validated");
+    }
+    put(out, at, b", DF, invalidated")
+}
+
+// What a descriptor says but its LID and access conditions.
+fn put_kind(out: &mut [u8], at: usize, d: Descriptor) -> usize
+    requires { ⌜ at ≤ length (now out) ⌝ }
+    ensures { λ x. ⌜ x ≤ length (now (out .exit)) ⌝ }
+{
+    if d.filetype == DF {
+        return put_df(out, at, d.status);
+    }
+    let sfi = put_sfi(out, at, d.sfi);
+    let kind = put_type(out, sfi, d.eftype);
+    put_sizes(out, kind, d)
+}
+
+fn put_descriptor(out: &mut [u8], at: usize, d: Descriptor) -> usize
+    requires { ⌜ at ≤ length (now out) ⌝ }
+    ensures { λ x. ⌜ x ≤ length (now (out .exit)) ⌝ }
+{
+    let ac = d.ac;
+    let nkey = d.nkey;
+    let label = put(out, at, b"\n  LID ");
+    let lid = put_word(out, label, d.lid);
+    let kind = put_kind(out, lid, d);
+    let conditions = put(out, kind, b"\n    access conditions: ");
+    let accesses = put_accesses(out, conditions, ac, nkey);
+    put(out, accesses, b"\n")
+}
+
+// DataRef: which counter a simulated counter file is.
+fn put_data_ref(out: &mut [u8], at: usize, sfi: u8, number: u8) -> usize
+    requires { ⌜ at ≤ length (now out) ⌝ }
+    ensures { λ x. ⌜ x ≤ length (now (out .exit)) ⌝ }
+{
+    let label = put(out, at, b"    stores nothing: it is counter ");
+    let counter = put_number(out, label, number as u64);
+    let of = put(out, counter, b" of the counters file with SFI ");
+    let file = put_byte(out, of, sfi);
+    put(out, file, b"\n")
+}
+
+// Where a record begins in the file area.
+fn place_of(l: Loading, sfi: u8, nn: u8) -> usize {
+    let files = l.files;
+    let spot = table::spot_of(files, at_most(l.count, TABLE_LIMIT), sfi, nn);
+    match spot {
+        Spot::At { base, size: _ } => base,
+        Spot::Nowhere => 0,
+    }
+}
+
+fn put_place(out: &mut [u8], at: usize, place: usize, size: usize) -> usize
+    requires { ⌜ at ≤ length (now out) ⌝ }
+    ensures { λ x. ⌜ x ≤ length (now (out .exit)) ⌝ }
+{
+    let label = put(out, at, b": offset ");
+    let offset = put_number(out, label, place as u64);
+    let gap = put(out, offset, b", ");
+    let bytes = put_many(out, gap, size as u64, b"byte");
+    put(out, bytes, b"\n")
+}
+
+// A record: its place, and the bytes that `shown` gives.
+fn put_record(out: &mut [u8], at: usize, c: Card, area: &[u8], sfi: u8, nn: u8) -> usize
+    requires { ⌜ at ≤ length (now out) ⌝ }
+    ensures { λ x. ⌜ x ≤ length (now (out .exit)) ⌝ }
+{
+    let label = put(out, at, b"    record ");
+    let name = put_number(out, label, nn as u64);
+    let mut number: u8 = 0;
+    let bytes = session::shown(c, area, sfi, nn, &mut number);
+    if number != 0 {
+        return put(out, name, b" cannot be shown\n");
+    }
+    let l = c.loading;
+    let place = put_place(out, name, place_of(l, sfi, nn), bytes.len());
+    put_dump(out, place, bytes)
+}
+
+// Records 1 to the last.
+fn put_records(out: &mut [u8], at: usize, c: Card, area: &[u8], sfi: u8, last: u8) -> usize
+    requires { ⌜ at ≤ length (now out) ⌝ }
+    ensures { λ x. ⌜ x ≤ length (now (out .exit)) ⌝ }
+{
+    let mut to = at;
+    let mut nn: u8 = 0;
+    while nn < last {
+        nn += 1;
+        to = put_record(out, to, c, area, sfi, nn);
+    }
+    to
+}
+
+// What is stored of a file.
+fn put_contents(out: &mut [u8], at: usize, c: Card, area: &[u8], d: Descriptor) -> usize
+    requires { ⌜ at ≤ length (now out) ⌝ }
+    ensures { λ x. ⌜ x ≤ length (now (out .exit)) ⌝ }
+{
+    if d.filetype == DF {
+        return at;
+    }
+    if d.eftype == SIMULATED {
+        return put_data_ref(out, at, d.refsfi, d.refnum);
+    }
+    if d.sfi == 0 {
+        return put(
+            out,
+            at,
+            b"    no SFI: its records cannot be loaded or shown\n",
+        );
+    }
+    if d.eftype == BINARY {
+        return put_record(out, at, c, area, d.sfi, 0);
+    }
+    put_records(out, at, c, area, d.sfi, d.numrec)
+}
+
+fn put_file(out: &mut [u8], at: usize, c: Card, area: &[u8], d: Descriptor) -> usize
+    requires { ⌜ at ≤ length (now out) ⌝ }
+    ensures { λ x. ⌜ x ≤ length (now (out .exit)) ⌝ }
+{
+    let head = put_descriptor(out, at, d);
+    put_contents(out, head, c, area, d)
+}
+
+fn put_files(out: &mut [u8], at: usize, c: Card, area: &[u8], count: usize) -> usize
+    requires { ⌜ (at ≤ length (now out)) × (count ≤ 31) ⌝ }
+    ensures { λ x. ⌜ x ≤ length (now (out .exit)) ⌝ }
+{
+    let l = c.loading;
+    let files = l.files;
+    let mut to = at;
+    let mut i: usize = 0;
+    while i < count {
+        let d = files[i];
+        to = put_file(out, to, c, area, d);
+        i += 1;
+    }
+    to
+}
+
+fn put_table(out: &mut [u8], at: usize, c: Card, area: &[u8]) -> usize
+    requires { ⌜ at ≤ length (now out) ⌝ }
+    ensures { λ x. ⌜ x ≤ length (now (out .exit)) ⌝ }
+{
+    let n = at_most(c.loading.count, TABLE_LIMIT);
+    if n == 0 {
+        return put(out, at, b"\n\nFile table: none\n");
+    }
+    let label = put(out, at, b"\n\nFile table: ");
+    let count = put_many(out, label, n as u64, b"descriptor");
+    let end = put(out, count, b"; offsets are those in the file area\n");
+    put_files(out, end, c, area, n)
+}
+
+// All but the files.
+fn put_front(out: &mut [u8], c: Card, count: u64) -> usize
+    ensures { λ x. ⌜ x ≤ length (now (out .exit)) ⌝ }
+{
+    let life = c.life;
+    let l = c.loading;
+    let first = put_life(out, 0, life);
+    let second = put_internal(out, first, l.internal);
+    let third = put_events(out, second, count);
+    let fourth = put_facts(out, third, l);
+    put_loaded(out, fourth, l, session::taken(c))
+}
+
+// The card in words, with what the buffer holds at the end.
+fn put_card(out: &mut [u8], c: Card, area: &[u8], count: u64) {
+    let front = put_front(out, c, count);
+    let end = put_table(out, front, c, area);
+    io::write_all(STDOUT_FILENO, &out[..end]);
+}
+
+// The card after a block, the events so far by their last five digits, and whether the input goes on.
+struct Block {
+    pub card: Card,
+    pub count: u64,
+    pub more: bool,
+}
+
+// Reads a block and plays its whole records. A torn last record is not an event.
+fn play_block(c: Card, area: &mut [u8], count: u64, block: &mut [u8], lines: &mut [u8]) -> Block
+    requires { ⌜ Good areaSize c (now area) × (count < 100000) × (length (now block) ≡ 65520) × (length (now lines) ≡ 6552) ⌝ }
+    ensures { λ r. ⌜ Good areaSize (r .card) (now (area .exit)) × (r .count < 100000) ⌝ }
+{
+    let got = io::read_full(STDIN_FILENO, block);
+    let k = got / register::RECORD_SIZE;
+    let e = register::enter_all(c, area, &block[..k * register::RECORD_SIZE], count, lines);
+    let card = e.card;
+    Block {
+        card: card,
+        count: e.count,
+        more: got == BLOCK_SIZE,
+    }
+}
+
+// The loop counts its turns down from a number that no run uses up, since nothing says that an input ends.
+fn play_all(c: Card, area: &mut [u8], block: &mut [u8], lines: &mut [u8]) -> Block
+    requires { ⌜ Good areaSize c (now area) × (length (now block) ≡ 65520) × (length (now lines) ≡ 6552) ⌝ }
+{
+    let mut last = Block {
+        card: c,
+        count: 0,
+        more: true,
+    };
+    let mut turns = u64::MAX;
+    while 0 < turns {
+        let card = last.card;
+        last = play_block(card, area, last.count, block, lines);
+        if last.more {
+            turns -= 1;
+        } else {
+            return last;
+        }
+    }
+    last
+}
+
+// The buffers, each by what its user asks of it.
+fn clear_area() -> [u8; 4096]
+    ensures { λ r. ⌜ (r ≡ zeros areaSize) × (4096 ≡ length r) ⌝ }
+{
+    [0; 4096]
+}
+
+fn block_buffer() -> [u8; 65520]
+    ensures { λ r. ⌜ 65520 ≡ length r ⌝ }
+{
+    [0; 65520]
+}
+
+fn line_buffer() -> [u8; 6552]
+    ensures { λ r. ⌜ 6552 ≡ length r ⌝ }
+{
+    [0; 6552]
+}
+
+fn text_buffer() -> [u8; 8192]
+    ensures { λ r. ⌜ 8192 ≡ length r ⌝ }
+{
+    [0; 8192]
+}
+
+fn show_card(c: Card, area: &[u8], count: u64) {
+    let mut text = text_buffer();
+    put_card(&mut text, c, area, count);
+}
+
+// The card of the chip record after all events.
+fn show(chip: &[u8]) {
+    let made = fresh::fresh(chip);
+    if made.number != 0 {
+        io::write_all(
+            STDOUT_FILENO,
+            b"Refused, number 07: the input must begin with a chip record of 40 bytes, the last three zero.\n",
+        );
+        return;
+    }
+    let fresh_card = made.card;
+    let mut area = clear_area();
+    let mut block = block_buffer();
+    let mut lines = line_buffer();
+    let last = play_all(fresh_card, &mut area, &mut block, &mut lines);
+    let card = last.card;
+    show_card(card, &area, last.count);
+}
+
+fn main() {
+    let mut chip = [0u8; 40];
+    let got = io::read_full(STDIN_FILENO, &mut chip);
+    show(&chip[..got]);
+}
