@@ -109,7 +109,7 @@ fn put_number(out: &mut [u8], at: usize, n: u64) -> usize
     ensures { λ r. ⌜ r ≤ length (now (out .exit)) ⌝ }
 {
     let mut digits = [0u8; 20];
-    let k = lines::put_number(&mut digits, 0, n);
+    let k = digits::put_number(&mut digits, 0, n);
     put(out, at, &digits[..k])
 }
 
@@ -134,7 +134,7 @@ fn put_hex(out: &mut [u8], at: usize, bytes: &[u8]) -> usize
 {
     let mut digits = [0u8; 64];
     let n = at_most(bytes.len(), HEX_LINE);
-    lines::put_hex(&mut digits, 0, &bytes[..n]);
+    digits::put_hex(&mut digits, 0, &bytes[..n]);
     put(out, at, &digits[..2 * n])
 }
 
@@ -658,7 +658,7 @@ fn put_data_ref(out: &mut [u8], at: usize, sfi: u8, number: u8) -> usize
 // Where a record begins in the file area.
 fn place_of(l: Loading, sfi: u8, nn: u8) -> usize {
     let files = l.files;
-    let spot = table::spot_of(files, at_most(l.count, TABLE_LIMIT), sfi, nn);
+    let spot = places::spot_of(files, at_most(l.count, TABLE_LIMIT), sfi, nn);
     match spot {
         Spot::At { base, size: _ } => base,
         Spot::Nowhere => 0,
