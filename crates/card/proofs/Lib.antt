@@ -1,3 +1,4 @@
 pub mod Sure
 pub mod Replies
 pub mod Tellings
+pub mod Records
