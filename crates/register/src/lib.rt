@@ -9,6 +9,7 @@ ghost use Rattle.model.specs.Stored.{areaSize};
 ghost use Rattle.model.specs.Session.{turnOf};
 ghost use Rattle.model.specs.Lines.{lineOf};
 ghost use Rattle.soundness.specs.Keeps.{Good};
+ghost use Rattle.register.specs.Entries.{enteredOf, Enters};
 
 pub const RECORD_SIZE: usize = 260;
 
@@ -56,7 +57,7 @@ fn enter_one(
 // Whole records end to end: each is played, and its line written behind the others.
 pub fn enter_all(c: Card, area: &mut [u8], records: &[u8], count: u64, out: &mut [u8]) -> Entered
     requires { ⌜ Good areaSize c (now area) × (count < 100000) × (length (now records) / 260 * 26 ≤ length (now out)) ⌝ }
-    ensures { λ r. ⌜ Good areaSize (r .card) (now (area .exit)) × (r .count < 100000) ⌝ }
+    ensures { λ r. ⌜ Good areaSize (r .card) (now (area .exit)) × (r .count < 100000) × Enters (enteredOf (length (now (records .entry)) / 260) count c (now (area .entry)) (now (records .entry))) (r .card) (now (area .exit)) (r .count) (now (out .entry)) (now (out .exit)) ⌝ }
 {
     let mut answer = [0u8; 64];
     let mut card = c;

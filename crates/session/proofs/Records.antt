@@ -1,12 +1,10 @@
 -- The records of a session, one more each time.
 use Prim.Native.Nat.{ℕ, zero, suc, _+_, _*_}
-use mathlib.Core.Path.{_≡_, refl, ap, sym, _∙_}
+use mathlib.Core.Path.{_≡_, refl, sym, _∙_}
 use mathlib.Core.List.{List, [], _∷_, _++_}
 use native.Mathlib.Nat.{zero-add}
-use native.Mathlib.Numerals.{add-one}
 use native.Mathlib.Omega.{arith}
-use lib.ListN.{length, take, drop, set, length-append}
-use lib.Seq.{drop-drop}
+use lib.ListN.{length, drop, set, length-append}
 use Rattle.lists.specs.Bytes.{part}
 use Rattle.lists.specs.Over.{overwrite, over-append, over-one, over-none}
 use Rattle.model.specs.declared.Card.{Card}
@@ -16,20 +14,8 @@ use Rattle.model.specs.Session.{Run, turnOf, recordsIn, after, runFrom}
 use Rattle.soundness.specs.Keeps.{Good}
 use Rattle.soundness.proofs.Sessions.{run-keeps}
 use Rattle.card.specs.Plays.{Plays}
+use Rattle.card.proofs.Records.{records-more}
 use Rattle.session.specs.Runs.{begun, ranOf, Leaves}
-
--- record n follows the n before it
-records-suc : (n : ℕ) (b : List ℕ) → recordsIn (suc n) b ≡ recordsIn n b ++ (part b (n * 260) 260 ∷ [])
-unfolding recordsIn
-records-suc zero b = refl
-records-suc (suc n) b =
-    ap (λ (l : List (List ℕ)). take 260 b ∷ l) (records-suc n (drop 260 b) ∙ rw (drop-drop (n * 260) 260 b, next) refl)
-  where
-    next : 260 + n * 260 ≡ suc n * 260
-    next = omega arith
-
-pub records-more : (n : ℕ) (b : List ℕ) → recordsIn (n + 1) b ≡ recordsIn n b ++ (part b (n * 260) 260 ∷ [])
-records-more n b = rw add-one (records-suc n b)
 
 -- two runs of records, the second on what the first left
 pub run-append : (xs ys : List (List ℕ)) (w : Run) → runFrom w (xs ++ ys) ≡ runFrom (runFrom w xs) ys

@@ -1,0 +1,2 @@
+-- What the calls of a register say.
+pub mod Entries
