@@ -13,7 +13,7 @@ use Rattle.model.specs.Session.{turnOf, recordsIn}
 use Rattle.model.specs.Lines.{lineOf}
 use Rattle.soundness.specs.Keeps.{Good}
 use Rattle.soundness.proofs.Sessions.{turn-keeps}
-use Rattle.lines.proofs.Sizes.{length-line}
+use Rattle.digits.proofs.Sizes.{length-line}
 use Rattle.card.proofs.Records.{records-more}
 use Rattle.register.specs.Entries.{Register, begun, counted, entry, entries, enteredOf, Enters}
 
