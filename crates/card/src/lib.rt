@@ -44,8 +44,8 @@ pub fn turn(c: Card, area: &mut [u8], answer: &mut [u8], r: &[u8]) -> Played
 {
     let kind = r[0];
     if is_kind(kind) {
-        let end = DATA_PLACE + slices::wide(r[3]);
-        if slices::zero_from(r, end) {
+        let end = DATA_PLACE + bytes::wide(r[3]);
+        if bytes::zero_from(r, end) {
             let x = events::event_on(c, area, answer, kind, r[1], &r[DATA_PLACE..end]);
             let after = x.card;
             return Played {

@@ -66,7 +66,7 @@ fn startup_kept(l: Loading, capacity: u8, v: &[u8]) -> Taken
                 load: l,
             };
         }
-        let mut bytes = slices::padded7(v);
+        let mut bytes = arrays::padded7(v);
         bytes[0] = smaller(v[0], capacity);
         let mut next = l;
         next.startup = bytes;
@@ -86,9 +86,9 @@ fn counter_in(v: &[u8]) -> u32
     requires { ⌜ length (now v) ≡ 3 ⌝ }
     ensures { λ r. ⌜ r ≡ counterOf (now (v .entry)) ⌝ }
 {
-    let first = slices::wide(v[0]);
-    let second = slices::wide(v[1]);
-    let third = slices::wide(v[2]);
+    let first = bytes::wide(v[0]);
+    let second = bytes::wide(v[1]);
+    let third = bytes::wide(v[2]);
     ((first * 256 + second) * 256 + third) as u32
 }
 
@@ -110,7 +110,7 @@ fn kept_as(l: Loading, capacity: u8, row: usize, v: &[u8]) -> Taken
 {
     let mut next = l;
     if row == 2 {
-        next.serial = slices::padded8(v);
+        next.serial = arrays::padded8(v);
         return Taken {
             verdict: Verdict::Passes(0),
             load: next,
@@ -127,7 +127,7 @@ fn kept_as(l: Loading, capacity: u8, row: usize, v: &[u8]) -> Taken
         };
     }
     let at = secret_place(row);
-    let bytes = slices::padded64(v);
+    let bytes = arrays::padded64(v);
     let secret = Secret {
         bytes: bytes,
         len: v.len(),

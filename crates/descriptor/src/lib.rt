@@ -3,7 +3,7 @@ use model::Descriptor;
 ghost use mathlib.Core.Path.{_≡_};
 ghost use Prim.Native.Nat.{_+_, _-_, _*_, _≤_, _<_};
 ghost use Rattle.descriptor.specs.Fields.{efFields};
-ghost use Rattle.model.specs.Table.{descriptorOf, dfOk, efType, clash, accessOk, accessesOk, sizeOf, sizesOk, counterIn};
+ghost use Rattle.model.specs.Table.{descriptorOf, dfOk, efType, clash, sizeOf, sizesOk, counterIn};
 
 const BINARY: u8 = 0x01;
 
@@ -15,7 +15,7 @@ const COUNTERS: u8 = 0x09;
 pub fn descriptor_of(b: [u8; 18]) -> Descriptor
     ensures { λ r. ⌜ r ≡ descriptorOf b ⌝ }
 {
-    let lid = slices::word(b[0], b[1]);
+    let lid = bytes::word(b[0], b[1]);
     Descriptor {
         lid: lid,
         sfi: b[2],
@@ -88,46 +88,12 @@ pub fn clash_of(d: Descriptor, e: Descriptor) -> bool
     d.sfi == e.sfi
 }
 
-fn access_ok(a: u8, k: u8) -> bool
-    ensures { λ r. ⌜ r ≡ accessOk a k ⌝ }
-{
-    if a == 0x10 {
-        if k < 1 {
-            return false;
-        }
-        return k <= 3;
-    }
-    if a == 0x00 {
-        return k == 0;
-    }
-    if a == 0x01 {
-        return k == 0;
-    }
-    if a == 0x1F {
-        return k == 0;
-    }
-    false
-}
-
-pub fn accesses_ok(a: [u8; 4], k: [u8; 4]) -> bool
-    ensures { λ r. ⌜ r ≡ accessesOk a k ⌝ }
-{
-    if access_ok(a[0], k[0]) {
-        if access_ok(a[1], k[1]) {
-            if access_ok(a[2], k[2]) {
-                return access_ok(a[3], k[3]);
-            }
-        }
-    }
-    false
-}
-
 // A file's bytes in the file area.
 pub fn size_of(d: Descriptor) -> usize
     ensures { λ r. ⌜ (r ≡ sizeOf d) × (r ≤ 65535) ⌝ }
 {
-    let z = slices::wide(d.recsize);
-    let n = slices::wide(d.numrec);
+    let z = bytes::wide(d.recsize);
+    let n = bytes::wide(d.numrec);
     if d.eftype == BINARY {
         return 256 * z + n;
     }

@@ -1,7 +1,7 @@
 // An event on a sound card: every kind in every state.
 use life::Lived;
+use locking::Told;
 use model::Card;
-use store::Told;
 ghost use mathlib.Core.Path.{_≡_};
 ghost use mathlib.Core.List.{List};
 ghost use Prim.Native.Nat.{ℕ, _≤_};
@@ -19,7 +19,7 @@ fn stuck_by(c: Card, answer: &mut [u8], kind: u8, d: &[u8]) -> Told
 {
     if kind == 3 {
         let life = c.life;
-        if install::is_named(life, d) {
+        if names::is_named(life, d) {
             return Told {
                 word: 0x6283,
                 answered: select::lay_name_fci(answer, c),
@@ -62,7 +62,7 @@ fn personalized(c: Card, area: &mut [u8], answer: &mut [u8], kind: u8, p1: u8, d
         if kind == 2 {
             return store::stored(c, area, answer, p1, d);
         }
-        return stuck_by(store::locked_now(c), answer, kind, d);
+        return stuck_by(locking::locked_now(c), answer, kind, d);
     }
     stuck_by(c, answer, kind, d)
 }
@@ -74,7 +74,7 @@ fn lived_on(c: Card, x: Lived) -> Told
     Told {
         word: x.word,
         answered: 0,
-        card: store::with_life(c, life),
+        card: locking::with_life(c, life),
     }
 }
 
@@ -87,7 +87,7 @@ fn selected_now(c: Card, answer: &mut [u8], d: &[u8]) -> Told
     Told {
         word: x.word,
         answered: x.answered,
-        card: store::with_life(c, life),
+        card: locking::with_life(c, life),
     }
 }
 

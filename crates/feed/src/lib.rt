@@ -163,7 +163,7 @@ pub fn table_fed(l: Loading, d: &[u8], at: usize, missing: usize) -> Step
     requires { ⌜ (at ≤ length (now d)) × Fed 0 missing (stateOf l []) ⌝ }
     ensures { λ r. ⌜ ((a : List ℕ) → stepped r (now (d .entry)) a ≡ feeding (Table 0 missing) (drop at (now (d .entry))) (stateOf l a)) ⌝ }
 {
-    let end = at + slices::least(missing, d.len() - at);
+    let end = at + bytes::least(missing, d.len() - at);
     let mut load = l;
     let mut i = at;
     let mut rest = missing;

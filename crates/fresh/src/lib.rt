@@ -84,7 +84,7 @@ pub fn is_chip(chip: &[u8]) -> bool
     ensures { λ r. ⌜ r ≡ chipForm (now (chip .entry)) ⌝ }
 {
     if chip.len() == CHIP_SIZE {
-        return slices::zero_from(chip, SPARE);
+        return bytes::zero_from(chip, SPARE);
     }
     false
 }
@@ -94,9 +94,9 @@ pub fn chip_of(chip: &[u8]) -> Chip
     requires { ⌜ length (now chip) ≡ chipSize ⌝ }
     ensures { λ r. ⌜ r ≡ chipOf (now (chip .entry)) ⌝ }
 {
-    let reference = slices::padded4(&chip[..CHALLENGE]);
-    let challenge = slices::padded16(&chip[CHALLENGE..TRACEABILITY]);
-    let traceability = slices::padded16(&chip[TRACEABILITY..CAPACITY]);
+    let reference = arrays::padded4(&chip[..CHALLENGE]);
+    let challenge = arrays::padded16(&chip[CHALLENGE..TRACEABILITY]);
+    let traceability = arrays::padded16(&chip[TRACEABILITY..CAPACITY]);
     Chip {
         reference: reference,
         challenge: challenge,

@@ -20,8 +20,8 @@ pub fn header_at(s: &[u8], at: usize) -> Header
     if left < SHORT_SIZE {
         return Header::Torn;
     }
-    let tag = slices::word_at(s, at);
-    let short = slices::wide(s[at + 2]);
+    let tag = bytes::word_at(s, at);
+    let short = bytes::wide(s[at + 2]);
     if short != 0xFF {
         return Header::Whole(Head {
             tag: tag,
@@ -32,7 +32,7 @@ pub fn header_at(s: &[u8], at: usize) -> Header
     if left < LONG_SIZE {
         return Header::Torn;
     }
-    let long = slices::word_at(s, at + 3);
+    let long = bytes::word_at(s, at + 3);
     if long == 0xFFFF {
         return Header::Torn;
     }

@@ -4,101 +4,11 @@ use model::Card;
 use model::Life;
 ghost use mathlib.Core.Path.{_≡_};
 ghost use mathlib.Core.List.{List};
-ghost use Prim.Native.Nat.{ℕ, _+_, _≤_, _<_};
-ghost use lib.ListN.{length, take, drop};
-ghost use Rattle.lists.specs.Bytes.{same};
-ghost use Rattle.model.specs.Events.{says, withLife, namesIn, nameLength, installForm, selectableForm, installing, makingSelectable, install};
-ghost use Rattle.install.specs.Places.{placesIn, namedAs};
+ghost use Prim.Native.Nat.{ℕ, _≤_};
+ghost use lib.ListN.{length};
+ghost use Rattle.model.specs.Events.{says, withLife, namesIn, installForm, installing, makingSelectable, install};
+ghost use Rattle.names.specs.Places.{namedAs};
 ghost use mathlib.Core.Bool.{true};
-
-const NAME_ROOM: usize = 16;
-
-// Where INSTALL's data has what: the lengths of the three names, the place of the third, that of the tail.
-pub struct Places {
-    pub first: usize,
-    pub second: usize,
-    pub third: usize,
-    pub name: usize,
-    pub tail: usize,
-}
-
-fn places_in(d: &[u8]) -> Places
-    ensures { λ r. ⌜ (r ≡ placesIn (now (d .entry))) × (r .tail ≤ 768) × (r .name ≤ r .tail) ⌝ }
-{
-    let first = slices::wide(slices::byte_at(d, 0));
-    let second = slices::wide(slices::byte_at(d, 1 + first));
-    let third = slices::wide(slices::byte_at(d, 2 + first + second));
-    let name = 3 + first + second;
-    Places {
-        first: first,
-        second: second,
-        third: third,
-        name: name,
-        tail: name + third,
-    }
-}
-
-fn name_length(n: usize) -> bool
-    ensures { λ r. ⌜ r ≡ nameLength n ⌝ }
-{
-    if n < 5 {
-        return false;
-    }
-    n <= NAME_ROOM
-}
-
-// What follows the names is exactly the fixed bytes.
-fn tail_is(d: &[u8], at: usize, fixed: &[u8]) -> bool
-    requires { ⌜ 1 ≤ length (now fixed) ⌝ }
-    ensures { λ r. ⌜ r ≡ same (drop at (now (d .entry))) (now (fixed .entry)) ⌝ }
-{
-    if d.len() < at {
-        return false;
-    }
-    slices::same_bytes(&d[at..], fixed)
-}
-
-// '04' and '0C': three names, and their tail.
-fn is_install_form(d: &[u8]) -> bool
-    ensures { λ r. ⌜ r ≡ installForm (namesIn (now (d .entry))) ⌝ }
-{
-    let p = places_in(d);
-    if name_length(p.first) {
-        if name_length(p.second) {
-            if name_length(p.third) {
-                return tail_is(d, p.tail, b"\x01\x00\x02\xC9\x00\x00");
-            }
-        }
-    }
-    false
-}
-
-// '08': two empty names, the instance's, and their tail.
-fn is_selectable_form(d: &[u8]) -> bool
-    ensures { λ r. ⌜ r ≡ selectableForm (namesIn (now (d .entry))) ⌝ }
-{
-    let p = places_in(d);
-    if p.first != 0 {
-        return false;
-    }
-    if p.second != 0 {
-        return false;
-    }
-    if name_length(p.third) {
-        return tail_is(d, p.tail, b"\x01\x00\x00\x00");
-    }
-    false
-}
-
-// All bytes of the card's name, and no other.
-pub fn is_named(life: Life, n: &[u8]) -> bool
-    requires { ⌜ life .namelen ≤ 16 ⌝ }
-    ensures { λ r. ⌜ r ≡ same (now (n .entry)) (take (life .namelen) (life .name)) ⌝ }
-{
-    let name = life.name;
-    let len = life.namelen;
-    slices::same_bytes(n, &name[..len])
-}
 
 // INSTALL '04' and '0C': the instance name kept, `gp` '03' or '07', the area filled with zeros.
 fn installed(c: Card, area: &mut [u8], p1: u8, d: &[u8]) -> Lived
@@ -106,7 +16,7 @@ fn installed(c: Card, area: &mut [u8], p1: u8, d: &[u8]) -> Lived
     ensures { λ r. ⌜ installing p1 (namesIn (now (d .entry))) c (now (area .entry)) ≡ says (r .word) (withLife (r .life) c) (now (area .exit)) ⌝ }
 {
     let life = c.life;
-    if is_install_form(d) {
+    if names::is_install_form(d) {
         if life.gp == 0x00 {
             slices::clear(area);
             return Lived {
@@ -130,10 +40,10 @@ fn named(life: Life, p1: u8, d: &[u8]) -> Life
     requires { ⌜ installForm (namesIn (now d)) ≡ true ⌝ }
     ensures { λ r. ⌜ r ≡ namedAs life p1 (namesIn (now (d .entry))) ⌝ }
 {
-    let p = places_in(d);
+    let p = names::places_in(d);
     let from = p.name;
     let to = p.tail;
-    let name = slices::padded16(&d[from..to]);
+    let name = arrays::padded16(&d[from..to]);
     if p1 == 0x04 {
         return Life {
             gp: 0x03,
@@ -156,17 +66,17 @@ fn made_selectable(c: Card, d: &[u8]) -> Lived
     ensures { λ r. ⌜ ((a : List ℕ) → makingSelectable (namesIn (now (d .entry))) c a ≡ says (r .word) (withLife (r .life) c) a) ⌝ }
 {
     let life = c.life;
-    if is_selectable_form(d) {
+    if names::is_selectable_form(d) {
         if life.gp == 0x00 {
             return Lived {
                 word: 0x6A88, // nothing installed
                 life: life,
             };
         }
-        let p = places_in(d);
+        let p = names::places_in(d);
         let from = p.name;
         let to = p.tail;
-        if is_named(life, &d[from..to]) {
+        if names::is_named(life, &d[from..to]) {
             if life.gp == 0x03 {
                 let mut next = life;
                 next.gp = 0x07;

@@ -1,5 +1,5 @@
 // The characters that the programs print, written straight into lent memory, a field at a time.
-use rows::count;
+use sets::count;
 use slices::put_bytes;
 ghost use mathlib.Core.Path.{_≡_};
 ghost use mathlib.Core.List.{[], _∷_, _++_};

@@ -70,7 +70,7 @@ fn table_fits(count: usize, held: usize, missing: usize) -> bool
 fn open_table_fits(l: Loading, held: usize, missing: usize) -> bool
     ensures { λ r. ⌜ r ≡ pendingFits (Open.Table held missing) l ⌝ }
 {
-    if rows::is_taken(l.rows, TABLE_ROW) {
+    if sets::is_taken(l.rows, TABLE_ROW) {
         return false;
     }
     table_fits(l.count, held, missing)

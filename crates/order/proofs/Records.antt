@@ -9,9 +9,9 @@ use Rattle.lists.specs.Bytes.{part}
 use Rattle.lists.specs.Over.{overwrite, length-over, over-then}
 use Rattle.model.specs.Stored.{recordSize, dataRoom, recordOf}
 use Rattle.model.specs.Order.{cutOf, stored, storedAll, recordsFor}
-use Rattle.order.specs.declared.Place.{Place}
-use Rattle.order.specs.Cuts.{joined, Fitting, unitsFrom, commandsFrom, Command}
-use Rattle.order.proofs.Commands.{atStart, first-cut, next-cut, none-left}
+use Rattle.cuts.specs.declared.Place.{Place}
+use Rattle.cuts.specs.Cuts.{joined, Fitting, unitsFrom, commandsFrom, Command}
+use Rattle.cuts.proofs.Commands.{atStart, first-cut, next-cut, none-left}
 
 length-stored : (p1 : ℕ) (d : List ℕ) → length d ≤ dataRoom → length (stored p1 d) ≡ recordSize
 unfolding recordOf

@@ -36,8 +36,8 @@ fn spot_in(d: Descriptor, base: usize, nn: u8) -> Spot
     if d.numrec < nn {
         return Spot::Nowhere;
     }
-    let size = slices::wide(d.recsize);
-    let before = slices::wide(nn - 1);
+    let size = bytes::wide(d.recsize);
+    let before = bytes::wide(nn - 1);
     let skipped = before * size;
     let begin = base + skipped;
     Spot::At {

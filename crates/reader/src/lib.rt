@@ -78,8 +78,8 @@ pub fn found_at(order: &[u8], at: usize) -> Found
 pub fn value_of(order: &[u8], found: Found) -> &[u8]
     ensures { λ r. ⌜ now r ≡ valueOf (now (order .entry)) found ⌝ }
 {
-    let start = slices::least(found.start, order.len());
-    let end = start + slices::least(found.len, order.len() - start);
+    let start = bytes::least(found.start, order.len());
+    let end = start + bytes::least(found.len, order.len() - start);
     &order[start..end]
 }
 

@@ -159,7 +159,7 @@ pub fn run_from(l: Loading, area: &mut [u8], d: &[u8], at: usize, turns: usize) 
     if rows::missing_before(l.rows, ROWS_BEFORE) {
         return none;
     }
-    if rows::is_taken(l.rows, RECORD_ROW) {
+    if sets::is_taken(l.rows, RECORD_ROW) {
         return run_on(l, area, d, at, turns);
     }
     none

@@ -4,7 +4,7 @@ use model::Verdict;
 ghost use mathlib.Core.Path.{_≡_};
 ghost use Prim.Native.Nat.{_+_, _-_, _≤_, _<_};
 ghost use lib.ListN.{take};
-ghost use Rattle.model.specs.Rows.{rowAt, rowOf, inRow, rowTable, taken, withRow, missingFrom, mandatoryMissing, noneFrom, rising, due, takenOf};
+ghost use Rattle.model.specs.Rows.{rowAt, rowOf, inRow, rowTable, missingFrom, mandatoryMissing, rising, due};
 ghost use Rattle.model.specs.Rules.{dueRow};
 ghost use Rattle.rows.specs.Lacking.{lacking};
 
@@ -154,25 +154,6 @@ pub fn row_of(tag: u16) -> usize
     0
 }
 
-// Whether a row is in the set.
-pub fn is_taken(rows: u16, r: usize) -> bool
-    requires { ⌜ (1 ≤ r) × (r ≤ 11) ⌝ }
-    ensures { λ x. ⌜ x ≡ taken rows r ⌝ }
-{
-    (rows >> (r - 1)) % 2 == 1
-}
-
-// The set with a row.
-pub fn with_row(rows: u16, r: usize) -> u16
-    requires { ⌜ (1 ≤ r) × (r ≤ 11) ⌝ }
-    ensures { λ x. ⌜ x ≡ withRow rows r ⌝ }
-{
-    if is_taken(rows, r) {
-        return rows;
-    }
-    rows + (1u16 << (r - 1))
-}
-
 // Row k + 1 is mandatory and not taken.
 fn lacks(rows: u16, k: usize) -> bool
     requires { ⌜ k < 11 ⌝ }
@@ -180,7 +161,7 @@ fn lacks(rows: u16, k: usize) -> bool
 {
     let row = ROWS[k];
     if row.mandatory {
-        if is_taken(rows, k + 1) {
+        if sets::is_taken(rows, k + 1) {
             return false;
         }
         return true;
@@ -212,7 +193,7 @@ pub fn mandatory_missing(rows: u16) -> bool
 fn is_rising(rows: u16, last: u16, tag: u16) -> bool
     ensures { λ x. ⌜ x ≡ rising rows last tag ⌝ }
 {
-    if is_taken(rows, RECORD_ROW) {
+    if sets::is_taken(rows, RECORD_ROW) {
         return last < tag;
     }
     true
@@ -244,11 +225,4 @@ pub fn due_row(rows: u16, last: u16, tag: u16) -> Verdict
         return Verdict::Passes(r);
     }
     Verdict::Refuses(0x6985)
-}
-
-// How many rows have been taken, counted from the set itself.
-pub fn count(rows: u16) -> u32
-    ensures { λ n. ⌜ n ≡ takenOf rows ⌝ }
-{
-    u16::count_ones(rows)
 }

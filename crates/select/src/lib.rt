@@ -83,7 +83,7 @@ pub fn selected_by(c: Card, answer: &mut [u8], d: &[u8]) -> Replied
             life: life,
         };
     }
-    if install::is_named(life, d) {
+    if names::is_named(life, d) {
         let mut next = life;
         next.gp = 0x07;
         next.selected = true;

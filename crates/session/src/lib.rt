@@ -102,5 +102,5 @@ pub fn shown<'a>(c: Card, area: &'a [u8], sfi: u8, nn: u8, number: &mut u8) -> &
 pub fn taken(c: Card) -> u32
     ensures { λ n. ⌜ n ≡ takenOf (c .loading .rows) ⌝ }
 {
-    rows::count(c.loading.rows)
+    sets::count(c.loading.rows)
 }

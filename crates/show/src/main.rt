@@ -447,7 +447,7 @@ fn put_taken(out: &mut [u8], at: usize, r: usize, rows: u16, last: u16) -> usize
     requires { ⌜ (at ≤ length (now out)) × (1 ≤ r) × (r ≤ 11) ⌝ }
     ensures { λ x. ⌜ x ≤ length (now (out .exit)) ⌝ }
 {
-    if rows::is_taken(rows, r) {
+    if sets::is_taken(rows, r) {
         return put_row(out, at, r, last);
     }
     at
@@ -588,7 +588,7 @@ fn put_sizes(out: &mut [u8], at: usize, d: Descriptor) -> usize
     ensures { λ x. ⌜ x ≤ length (now (out .exit)) ⌝ }
 {
     if d.eftype == BINARY {
-        return put_many(out, at, table::size_of(d) as u64, b"byte");
+        return put_many(out, at, descriptor::size_of(d) as u64, b"byte");
     }
     let number = put_many(out, at, d.numrec as u64, b"record");
     let of = put(out, number, b" of ");

@@ -1,21 +1,14 @@
 // Whether a state is sound: a function for each clause, in the paper's order.
 use model::Card;
 use model::Descriptor;
-use model::Life;
 use model::Loading;
 use model::Open;
 use model::Secret;
 ghost use mathlib.Core.Path.{_≡_};
-ghost use mathlib.Core.Bool.{_||_};
 ghost use Prim.Native.Nat.{_≤_};
-ghost use lib.Dec.{eqb};
 ghost use lib.ListN.{length};
-ghost use Rattle.model.specs.Sound.{gpOk, internalOk, nameOk, selectedOk, descriptorsOk, rowsOk, tableOpen, tablePlaced, secretsOk, sound};
-ghost use Rattle.opened.specs.Parts.{lifePart, loadPart};
-
-const NAME_LEAST: usize = 5;
-
-const NAME_MOST: usize = 16;
+ghost use Rattle.model.specs.Sound.{descriptorsOk, rowsOk, tableOpen, tablePlaced, secretsOk, sound};
+ghost use Rattle.opened.specs.Parts.{loadPart};
 
 const TABLE_LIMIT: usize = 31;
 
@@ -27,76 +20,6 @@ const TABLE_ROW: usize = 5;
 const SECRET_COUNT: usize = 5;
 
 const SECRET_ROOM: usize = 64;
-
-// GP among '00', '03', '07', '83', '87'.
-fn gp_ok(g: u8) -> bool
-    ensures { λ r. ⌜ r ≡ gpOk g ⌝ }
-{
-    if g == 0x00 {
-        return true;
-    }
-    if g == 0x03 {
-        return true;
-    }
-    if g == 0x07 {
-        return true;
-    }
-    if g == 0x83 {
-        return true;
-    }
-    g == 0x87
-}
-
-fn is_07_or_87(g: u8) -> bool
-    ensures { λ r. ⌜ r ≡ (eqb g 0x07 || eqb g 0x87) ⌝ }
-{
-    if g == 0x07 {
-        return true;
-    }
-    g == 0x87
-}
-
-// Internal 'CC', or '5A' or 'A5' with '07' or '87'.
-fn internal_ok(i: u8, g: u8) -> bool
-    ensures { λ r. ⌜ r ≡ internalOk i g ⌝ }
-{
-    if i == 0xCC {
-        return true;
-    }
-    if i == 0x5A {
-        return is_07_or_87(g);
-    }
-    if i == 0xA5 {
-        return is_07_or_87(g);
-    }
-    false
-}
-
-// Name length 5 to 16, or 0 exactly when absent.
-fn name_ok(n: usize, g: u8) -> bool
-    ensures { λ r. ⌜ r ≡ nameOk n g ⌝ }
-{
-    if g == 0x00 {
-        return n == 0;
-    }
-    if n < NAME_LEAST {
-        return false;
-    }
-    n <= NAME_MOST
-}
-
-// Selected only at '07', and always at '07' with '5A'.
-fn selected_ok(sel: bool, g: u8, i: u8) -> bool
-    ensures { λ r. ⌜ r ≡ selectedOk sel g i ⌝ }
-{
-    if g == 0x07 {
-        if sel {
-            return true;
-        }
-        return i != 0x5A;
-    }
-    !sel
-}
 
 // The table's places: an array that comes by itself tells its length, which it does not as a card's field.
 fn places(files: [Descriptor; 31]) -> usize
@@ -152,7 +75,7 @@ fn table_placed(l: Loading, g: u8) -> bool
     if l.count == 0 {
         return true;
     }
-    if rows::is_taken(l.rows, TABLE_ROW) {
+    if sets::is_taken(l.rows, TABLE_ROW) {
         return true;
     }
     if table_open(o) {
@@ -179,21 +102,6 @@ fn secrets_ok(secrets: [Secret; 5]) -> bool
     true
 }
 
-// The clauses on GP, internal, name and selected.
-fn life_ok(f: Life, i: u8) -> bool
-    ensures { λ r. ⌜ r ≡ lifePart f i ⌝ }
-{
-    let g = f.gp;
-    if gp_ok(g) {
-        if internal_ok(i, g) {
-            if name_ok(f.namelen, g) {
-                return selected_ok(f.selected, g, i);
-            }
-        }
-    }
-    false
-}
-
 // The clauses on rows, the table's place and secrets.
 fn load_ok(l: Loading, g: u8) -> bool
     ensures { λ r. ⌜ r ≡ loadPart l g ⌝ }
@@ -217,7 +125,7 @@ pub fn is_sound(c: Card) -> bool
     if places(files) < l.count {
         return false;
     }
-    if life_ok(f, l.internal) {
+    if clauses::life_ok(f, l.internal) {
         if load_ok(l, f.gp) {
             if opened::value_ok(l, f.gp) {
                 return descriptors_ok(l);

@@ -61,7 +61,7 @@ pub fn with_taken(l: Loading, r: usize) -> Loading
     ensures { λ x. ⌜ x ≡ withTaken r l ⌝ }
 {
     let mut next = l;
-    next.rows = rows::with_row(l.rows, r);
+    next.rows = sets::with_row(l.rows, r);
     next
 }
 
@@ -115,7 +115,7 @@ pub fn record_fed(
     requires { ⌜ (at ≤ length (now d)) × (length (now area) ≡ 4096) × (l .count ≤ 31) × RecordOpen l tag written missing ⌝ }
     ensures { λ r. ⌜ stepped r (now (d .entry)) (now (area .exit)) ≡ feeding (Record tag written missing) (drop at (now (d .entry))) (stateOf l (now (area .entry))) ⌝ }
 {
-    let n = slices::least(missing, d.len() - at);
+    let n = bytes::least(missing, d.len() - at);
     let end = at + n;
     lay_record(l, area, tag, written, &d[at..end]);
     let next = record_done(l, tag, written + n, missing - n);

@@ -16,7 +16,7 @@ use Rattle.steps.specs.declared.Course.the-variants.{Went, Asked, Failed}
 use Rattle.steps.specs.declared.Step.{Step}
 use Rattle.steps.specs.Steps.{stateOf}
 use Rattle.records.specs.Steps.{endedAs, ended}
-use Rattle.store.specs.declared.Told.{Told}
+use Rattle.locking.specs.declared.Told.{Told}
 use Rattle.store.specs.Ends.{commandedAs}
 
 -- a word and a life, told as they are

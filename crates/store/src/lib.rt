@@ -1,8 +1,6 @@
 // STORE DATA on a sound card: a command's end as a word, answer bytes and the card after it; locking.
+use locking::Told;
 use model::Card;
-use model::Life;
-use model::Loading;
-use model::Open;
 use steps::Course;
 ghost use mathlib.Core.Path.{_≡_};
 ghost use mathlib.Core.List.{List};
@@ -10,64 +8,10 @@ ghost use Prim.Native.Nat.{ℕ, _≤_};
 ghost use lib.ListN.{length};
 ghost use Rattle.lists.specs.Over.{overwrite};
 ghost use Rattle.model.specs.Stored.{areaSize};
-ghost use Rattle.model.specs.Events.{says, withLife, withLoading, locked, answerTo, errs, storeData};
+ghost use Rattle.model.specs.Events.{answerTo, storeData};
 ghost use Rattle.soundness.specs.Keeps.{Good};
 ghost use Rattle.select.specs.Answers.{Answers};
 ghost use Rattle.store.specs.Ends.{commandedAs};
-
-// The word of an event, the number of its answer bytes, and the card after it.
-pub struct Told {
-    pub word: u16,
-    pub answered: usize,
-    pub card: Card,
-}
-
-pub fn with_life(c: Card, life: Life) -> Card
-    ensures { λ r. ⌜ r ≡ withLife life c ⌝ }
-{
-    let mut next = c;
-    next.life = life;
-    next
-}
-
-fn with_loading(c: Card, load: Loading) -> Card
-    ensures { λ r. ⌜ r ≡ withLoading load c ⌝ }
-{
-    let mut next = c;
-    next.loading = load;
-    next
-}
-
-// Locking: '87', not selected, an open value dropped.
-pub fn locked_now(c: Card) -> Card
-    ensures { λ r. ⌜ r ≡ locked c ⌝ }
-{
-    let mut life = c.life;
-    life.gp = 0x87;
-    life.selected = false;
-    let load = c.loading;
-    let none = [0u8; 18];
-    let shut = steps::with_open(load, Open::Shut, none);
-    with_loading(with_life(c, life), shut)
-}
-
-// An error of a command: in '5A' it locks.
-fn failed_by(c: Card, w: u16) -> Told
-    ensures { λ r. ⌜ (r .answered ≡ 0) × ((a : List ℕ) → errs w c a ≡ says (r .word) (r .card) a) ⌝ }
-{
-    if c.loading.internal == 0x5A {
-        return Told {
-            word: w,
-            answered: 0, // an error gives no bytes
-            card: locked_now(c),
-        };
-    }
-    Told {
-        word: w,
-        answered: 0,
-        card: c,
-    }
-}
 
 // What a query gives, at the front of the answer buffer: how many bytes it has.
 fn lay_answer(answer: &mut [u8], c: Card, tag: u16) -> usize
@@ -110,7 +54,7 @@ fn told_of(answer: &mut [u8], c: Card, course: Course) -> Told
             answered: lay_answer(answer, c, tag),
             card: c,
         },
-        Course::Failed(w) => failed_by(c, w),
+        Course::Failed(w) => locking::failed_by(c, w),
     }
 }
 
@@ -122,14 +66,14 @@ pub fn stored(c: Card, area: &mut [u8], answer: &mut [u8], p1: u8, d: &[u8]) -> 
     let life = c.life;
     if life.selected {
         if d.len() == 0 {
-            return failed_by(c, 0x6700);
+            return locking::failed_by(c, 0x6700);
         }
         let load = c.loading;
         let chip = c.chip;
         let s = load::commanded(load, area, chip.capacity, p1, d);
         let next = s.load;
         let course = s.course;
-        let after = with_loading(c, next);
+        let after = locking::with_loading(c, next);
         return told_of(answer, after, course);
     }
     Told {

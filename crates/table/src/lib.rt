@@ -85,7 +85,7 @@ fn rules_ok(d: Descriptor, files: [Descriptor; 31], count: usize) -> bool
     }
     let ac = d.ac;
     let nkey = d.nkey;
-    if descriptor::accesses_ok(ac, nkey) {
+    if access::accesses_ok(ac, nkey) {
         if count == 0 {
             return descriptor::df_ok(d);
         }

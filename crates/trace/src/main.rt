@@ -254,7 +254,7 @@ fn weight(i: usize, b: u8) -> usize
     requires { ⌜ i < 4096 ⌝ }
     ensures { λ r. ⌜ r ≤ 1044480 ⌝ }
 {
-    (i + 1) * slices::wide(b)
+    (i + 1) * bytes::wide(b)
 }
 
 // The place sum. It stays under 2^32.

@@ -21,7 +21,7 @@ use Rattle.soundness.specs.Keeps.{Onward}
 use Rattle.steps.specs.Steps.{stateOf, activeLife}
 use Rattle.cutting.specs.Packs.{longestUnit, Sized, none, more}
 use Rattle.cutting.proofs.Commands.{units-sized}
-use Rattle.order.specs.Cuts as cuts
+use Rattle.cuts.specs.Cuts as cuts
 use Rattle.writer.specs.Writes.{passesBehind}
 
 -- a state where a mandatory row is missing is not ready; where none is, it is ready exactly if nothing is open

@@ -16,7 +16,7 @@ use Rattle.cutting.specs.Job.{jobWith, sessionOf, Taken, Accepted}
 use Rattle.cutting.proofs.Commands.{cut-sized}
 use Rattle.cutting.proofs.Stored.{record-length}
 use Rattle.cutting.proofs.Writes.{write-only, write-all, write-taken}
-use Rattle.order.specs.Cuts.{joined}
+use Rattle.cuts.specs.Cuts.{joined}
 use Rattle.writer.specs.Writes.{Writes, sessionIn}
 
 told-one : (n n′ k k′ : ℕ) → n ≡ n′ → k ≡ k′ → _≡_ {A = Written} (record { number = n; count = k }) (record { number = n′; count = k′ })

@@ -11,7 +11,7 @@ use Rattle.model.specs.Stored.{recordSize}
 use Rattle.model.specs.Command.{walk}
 use Rattle.model.specs.Order.{orderLimit, challengedState, finished, complete, recordsFor, Writing, noWriting}
 use Rattle.cutting.specs.Job.{installRecord, selectRecord}
-use Rattle.order.specs.Cuts.{joined}
+use Rattle.cuts.specs.Cuts.{joined}
 
 -- its number, how many records, and those end to end over the front of the room; all else of the room stays
 pub record Writes (w : Writing) (before : List ℕ) (r : Written) (after : List ℕ) : Type 0 where

@@ -10,7 +10,7 @@ ghost use lib.ListN.{length};
 ghost use Rattle.model.specs.Command.{isShut, ready};
 ghost use Rattle.model.specs.Order.{orderLimit, complete, recordsFor, noWriting, writeOf};
 ghost use Rattle.steps.specs.Steps.{stateOf};
-ghost use Rattle.order.specs.Cuts.{cuttable};
+ghost use Rattle.cuts.specs.Cuts.{cuttable};
 ghost use Rattle.writer.specs.Writes.{Writes, passesBehind, cutFor, writeFor};
 
 const ORDER_LIMIT: usize = 8192;
@@ -96,7 +96,7 @@ fn cut_into(order: &[u8], room: &mut [u8]) -> Written
     requires { ⌜ cuttable (now order) × (length (recordsFor (now order)) ≤ 45) ⌝ }
     ensures { λ r. ⌜ Writes (cutFor (now (order .entry)) (length (now (room .entry)))) (now (room .entry)) r (now (room .exit)) ⌝ }
 {
-    let count = 1 + order::command_count(order);
+    let count = 1 + cuts::command_count(order);
     if room.len() < count * RECORD_SIZE {
         return refused_by(11);
     }

@@ -18,8 +18,8 @@ use Rattle.card.proofs.turn.Lts as lts
 use Rattle.events.proofs.event_on.Reads as event-on-reads
 use Rattle.card.proofs.is_kind.Reads as is-kind-reads
 use Rattle.card.proofs.refused_by.Reads as refused-by-reads
-use Rattle.slices.proofs.wide.Reads as wide-reads
-use Rattle.slices.proofs.zero_from.Reads as zero-from-reads
+use Rattle.bytes.proofs.wide.Reads as wide-reads
+use Rattle.bytes.proofs.zero_from.Reads as zero-from-reads
 
 shared-slice-read-kind : tie.Need-shared-slice-read-kind
 shared-slice-read-kind c = search needs

@@ -13,7 +13,7 @@ use Rattle.events.proofs.personalized.Statement.{statement}
 use Rattle.events.proofs.personalized.Tie as tie
 use Rattle.events.proofs.personalized.Reads as reads
 use Rattle.events.proofs.personalized.Lts as lts
-use Rattle.store.proofs.locked_now.Reads as locked-now-reads
+use Rattle.locking.proofs.locked_now.Reads as locked-now-reads
 use Rattle.store.proofs.stored.Reads as stored-reads
 use Rattle.events.proofs.stuck_by.Reads as stuck-by-reads
 

@@ -19,7 +19,7 @@ use Rattle.feed.proofs.table_fed.Statement.{statement}
 use Rattle.feed.proofs.table_fed.Tie as tie
 use Rattle.feed.proofs.table_fed.Reads as reads
 use Rattle.feed.proofs.table_fed.Lts as lts
-use Rattle.slices.proofs.least.Reads as least-reads
+use Rattle.bytes.proofs.least.Reads as least-reads
 use Rattle.feed.proofs.next_fed.Reads as next-fed-reads
 
 abbrev Inv-loop : tie.InvT-loop

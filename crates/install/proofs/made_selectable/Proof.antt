@@ -2,7 +2,7 @@ use mathlib.Core.Path.{_≡_, sym, _∙_}
 use denote.Ref.{now}
 use borrow.Author.Needs.{needs}
 use Rattle.model.specs.Events.{namesIn, makingSelectable, isName}
-use Rattle.install.proofs.Install.{selectable-ends, named-is}
+use Rattle.names.proofs.Install.{selectable-ends, named-is}
 use borrow.Author.Tests.{eq-eqb, ne-eqb}
 use Rattle.install.proofs.made_selectable.Statement.{statement}
 use Rattle.install.proofs.made_selectable.Tie as tie

@@ -1,7 +1,7 @@
 use denote.Ref.{now}
 use borrow.Author.Needs.{needs}
 use borrow.Author.Tests.{eq-eqb, ne-eqb}
-use Rattle.install.proofs.Install.{install-ends, install-fits, life-named}
+use Rattle.names.proofs.Install.{install-ends, install-fits, life-named}
 use Rattle.install.proofs.named.Statement.{statement}
 use Rattle.install.proofs.named.Tie as tie
 

@@ -5,7 +5,7 @@ use denote.Ref.{now}
 use borrow.Author.Needs.{needs}
 use Rattle.lists.specs.Over.{length-over}
 use Rattle.order.proofs.Records.{Laid, laid-none, laid-more, laid-last}
-use Rattle.order.proofs.Commands.{fitting-start}
+use Rattle.cuts.proofs.Commands.{fitting-start}
 use Rattle.order.proofs.lay_commands.Statement.{statement}
 use Rattle.order.proofs.lay_commands.Tie as tie
 

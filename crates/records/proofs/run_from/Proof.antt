@@ -11,7 +11,7 @@ use Rattle.records.proofs.run_from.Tie as tie
 use Rattle.records.proofs.run_from.Reads as reads
 use Rattle.records.proofs.run_from.Lts as lts
 use Rattle.records.proofs.run_on.Reads as run-on-reads
-use Rattle.rows.proofs.is_taken.Reads as is-taken-reads
+use Rattle.sets.proofs.is_taken.Reads as is-taken-reads
 use Rattle.rows.proofs.missing_before.Reads as missing-before-reads
 
 returns : tie.Need-returns

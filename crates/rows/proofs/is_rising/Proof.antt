@@ -11,7 +11,7 @@ use Rattle.rows.proofs.is_rising.Statement.{statement}
 use Rattle.rows.proofs.is_rising.Tie as tie
 use Rattle.rows.proofs.is_rising.Reads as reads
 use Rattle.rows.proofs.is_rising.Lts as lts
-use Rattle.rows.proofs.is_taken.Reads as is-taken-reads
+use Rattle.sets.proofs.is_taken.Reads as is-taken-reads
 
 is-taken-requires : tie.Need-is-taken-requires
 is-taken-requires c κs = search needs

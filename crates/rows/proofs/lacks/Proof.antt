@@ -12,7 +12,7 @@ use Rattle.rows.proofs.lacks.Statement.{statement}
 use Rattle.rows.proofs.lacks.Tie as tie
 use Rattle.rows.proofs.lacks.Reads as reads
 use Rattle.rows.proofs.lacks.Lts as lts
-use Rattle.rows.proofs.is_taken.Reads as is-taken-reads
+use Rattle.sets.proofs.is_taken.Reads as is-taken-reads
 
 mul-row : tie.Need-mul-row
 mul-row c = search needs

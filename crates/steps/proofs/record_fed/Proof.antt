@@ -16,7 +16,7 @@ use Rattle.steps.proofs.record_fed.Tie as tie
 use Rattle.steps.proofs.record_fed.Reads as reads
 use Rattle.steps.proofs.record_fed.Lts as lts
 use Rattle.steps.proofs.lay_record.Reads as lay-record-reads
-use Rattle.slices.proofs.least.Reads as least-reads
+use Rattle.bytes.proofs.least.Reads as least-reads
 use Rattle.steps.proofs.record_done.Reads as record-done-reads
 
 sub-least : tie.Need-sub-least

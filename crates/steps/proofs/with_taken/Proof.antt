@@ -10,7 +10,7 @@ use Rattle.steps.proofs.with_taken.Statement.{statement}
 use Rattle.steps.proofs.with_taken.Tie as tie
 use Rattle.steps.proofs.with_taken.Reads as reads
 use Rattle.steps.proofs.with_taken.Lts as lts
-use Rattle.rows.proofs.with_row.Reads as with-row-reads
+use Rattle.sets.proofs.with_row.Reads as with-row-reads
 
 with-row-requires : tie.Need-with-row-requires
 with-row-requires c κs = search needs

@@ -16,9 +16,9 @@ use Rattle.store.proofs.stored.Statement.{statement}
 use Rattle.store.proofs.stored.Tie as tie
 use Rattle.store.proofs.stored.Reads as reads
 use Rattle.store.proofs.stored.Lts as lts
-use Rattle.store.proofs.failed_by.Reads as failed-by-reads
+use Rattle.locking.proofs.failed_by.Reads as failed-by-reads
 use Rattle.store.proofs.told_of.Reads as told-of-reads
-use Rattle.store.proofs.with_loading.Reads as with-loading-reads
+use Rattle.locking.proofs.with_loading.Reads as with-loading-reads
 use Rattle.load.proofs.commanded.Reads as commanded-reads
 
 failed-by-requires : tie.Need-failed-by-requires

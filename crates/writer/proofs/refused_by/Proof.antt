@@ -1,5 +1,5 @@
 use mathlib.Core.Path.{refl, sym}
-use Rattle.order.specs.Cuts.{joined}
+use Rattle.cuts.specs.Cuts.{joined}
 use Rattle.lists.specs.Over.{over-none}
 use Rattle.writer.proofs.refused_by.Statement.{statement}
 use Rattle.writer.proofs.refused_by.Tie as tie

@@ -1,0 +1,50 @@
+use Prim.Native.Nat.{ℕ, suc, _+_, _*_, _-_, _≤_, _<_, _/_, _%_}
+use mathlib.Core.Path.{_≡_, refl, ap, sym, _∙_}
+use mathlib.Core.List.{List, [], _∷_, _++_}
+use native.Mathlib.Omega.{arith}
+use native.Mathlib.Numerals.{add-one}
+use lib.ListN.{length, take, drop, set, getD, length-set, length-take, length-drop, length-append}
+use mathlib.Core.Bool.{Bool, true, false, _&&_}
+use mathlib.Core.Logic.{⊎-elim}
+use Rattle.lists.specs.Bytes.{allZero, zero-step, zero-stop, zero-end, and-false, and-true}
+use denote.Ref.{now}
+use borrow.Author.Needs.{needs}
+use Rattle.bytes.proofs.zero_from.Statement.{statement}
+use Rattle.bytes.proofs.zero_from.Tie as tie
+use Rattle.bytes.proofs.zero_from.Reads as reads
+use Rattle.bytes.proofs.zero_from.Lts as lts
+
+abbrev Inv-loop : tie.InvT-loop
+Inv-loop s at zero₀ i₀ zero i = allZero (drop at s) ≡ (zero && allZero (drop i s))
+
+abbrev μ-loop : tie.MeasureT-loop
+μ-loop s at zero₀ i₀ zero i = length s - i
+
+loop-holds : tie.Need-loop-holds Inv-loop μ-loop
+loop-holds c = refl
+
+shared-slice-read-if1 : tie.Need-shared-slice-read-if1 Inv-loop μ-loop
+shared-slice-read-if1 c = search needs
+
+add-i : tie.Need-add-i Inv-loop μ-loop
+add-i c = search needs
+
+loop-less : tie.Need-loop-less Inv-loop μ-loop
+loop-less c = search needs
+
+loop-again : tie.Need-loop-again Inv-loop μ-loop
+loop-again c =
+    let b = c .before .before .before in
+    let s = now (b .before .args .s) in
+    ⊎-elim
+    (λ w. b .loop .inv ∙ rw (w .1, zero-stop s (b .loop .i) (search needs) (w .0 .taken)) (and-false (b .loop .zero)))
+    (λ w. b .loop .inv ∙ rw (w .1, zero-step s (b .loop .i) (search needs) (w .0 .left)))
+    (c .if1 .came)
+
+returns : tie.Need-returns Inv-loop μ-loop
+returns c = sym (c .before .loop .inv ∙ rw (zero-end _ _ (c .loop-test .left)) (and-true (c .before .loop .zero)))
+
+pub zero-from-spec : {M : Type 1} → statement M
+zero-from-spec =
+    tie.close
+    (tie.spec Inv-loop μ-loop loop-holds shared-slice-read-if1 add-i loop-less loop-again returns)

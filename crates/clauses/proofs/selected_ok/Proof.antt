@@ -1,0 +1,16 @@
+use borrow.Author.Tests.{eq-eqb}
+use Rattle.lists.specs.Choice.{cases}
+use Rattle.clauses.proofs.selected_ok.Statement.{statement}
+use Rattle.clauses.proofs.selected_ok.Tie as tie
+
+returns : tie.Need-returns
+returns c = simp (eq-eqb _ _ (c .before .if1 .taken), c .if2 .taken)
+
+returns-2 : tie.Need-returns-2
+returns-2 c = simp (eq-eqb _ _ (c .before .if1 .taken), c .if2 .left)
+
+returns-3 : tie.Need-returns-3
+returns-3 c = search cases
+
+pub selected-ok-spec : {M : Type 1} → statement M
+selected-ok-spec = tie.close (tie.spec returns returns-2 returns-3)

@@ -1,0 +1,4 @@
+pub mod Packing
+pub mod Stepping
+pub mod Filling
+pub mod Commands

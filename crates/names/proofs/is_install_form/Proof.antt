@@ -1,0 +1,72 @@
+use mathlib.Core.Path.{sym, _∙_}
+use borrow.Author.Needs.{needs}
+use Rattle.names.proofs.Install.{install-form}
+use Rattle.names.proofs.is_install_form.Statement.{statement}
+use Rattle.names.proofs.is_install_form.Tie as tie
+
+places-in-requires : tie.Need-places-in-requires
+places-in-requires c κs = search needs
+
+name-length-requires : tie.Need-name-length-requires
+name-length-requires c κs = search needs
+
+name-length-requires-2 : tie.Need-name-length-requires-2
+name-length-requires-2 c κs = search needs
+
+name-length-requires-3 : tie.Need-name-length-requires-3
+name-length-requires-3 c κs = search needs
+
+slice-aggregate-tail-is : tie.Need-slice-aggregate-tail-is
+slice-aggregate-tail-is c = search needs
+
+tail-is-requires : tie.Need-tail-is-requires
+tail-is-requires c κs = search needs
+
+returns : tie.Need-returns
+returns c =
+    let three = c .before .before .before in
+    let two = three .before .before in
+    let one = two .before .before in
+    let p = one .before in
+    c .tail-is .ensures
+    ∙ sym (install-form _ (p .places-in .result) (p .places-in .ensures .0)
+    ∙ simp (← one .name-length .ensures, two .before .if1 .taken, ← two .name-length2 .ensures, three .before .if2 .taken, ← three .name-length3 .ensures, c .before .before .if3 .taken))
+
+returns-2 : tie.Need-returns-2
+returns-2 c =
+    let three = c .before in
+    let two = three .before .before in
+    let one = two .before .before in
+    let p = one .before in
+    sym (install-form _ (p .places-in .result) (p .places-in .ensures .0)
+    ∙ simp (← one .name-length .ensures, two .before .if1 .taken, ← two .name-length2 .ensures, three .before .if2 .taken, ← three .name-length3 .ensures, c .if3 .left))
+
+returns-3 : tie.Need-returns-3
+returns-3 c =
+    let two = c .before in
+    let one = two .before .before in
+    let p = one .before in
+    sym (install-form _ (p .places-in .result) (p .places-in .ensures .0)
+    ∙ simp (← one .name-length .ensures, two .before .if1 .taken, ← two .name-length2 .ensures, c .if2 .left))
+
+returns-4 : tie.Need-returns-4
+returns-4 c =
+    let one = c .before in
+    let p = one .before in
+    sym (install-form _ (p .places-in .result) (p .places-in .ensures .0)
+    ∙ simp (← one .name-length .ensures, c .if1 .left))
+
+pub is-install-form-spec : {M : Type 1} → statement M
+is-install-form-spec =
+    tie.close
+    (tie.spec
+    places-in-requires
+    name-length-requires
+    name-length-requires-2
+    name-length-requires-3
+    slice-aggregate-tail-is
+    tail-is-requires
+    returns
+    returns-2
+    returns-3
+    returns-4)
