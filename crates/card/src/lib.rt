@@ -1,4 +1,4 @@
-// One event: every kind in every state, and the numbers by which a call is refused.
+// One event with its numbers: by which a call is refused, and in which order.
 use model::Card;
 use model::Played;
 ghost use mathlib.Core.Path.{_≡_};

@@ -1,4 +1,4 @@
-// INSTALL: the three names in its data, its forms, and what it makes of the card's life.
+// INSTALL: what it makes of the card's life and of the file area.
 use life::Lived;
 use model::Card;
 use model::Life;

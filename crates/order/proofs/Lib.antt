@@ -1,3 +1,3 @@
--- The laws of units and of packing, on which the cutting's proofs stand, and those of a pull.
+-- Records laid one after the other.
 pub mod Laying
 pub mod Records

@@ -1,4 +1,4 @@
-// An order: its reader, and its cutting into the writer's records.
+// The writer's records: an order cut, and laid into lent room.
 use cuts::Place;
 ghost use mathlib.Core.Path.{_≡_};
 ghost use Prim.Native.Nat.{_+_, _*_, _≤_};

@@ -1,4 +1,4 @@
-// STORE DATA on a sound card: a command's end as a word, answer bytes and the card after it; locking.
+// STORE DATA on a sound card: a command's end as a word, answer bytes and the card after it.
 use locking::Told;
 use model::Card;
 use steps::Course;

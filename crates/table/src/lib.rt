@@ -1,4 +1,4 @@
-// The file table: a descriptor decoded, judged after those before it, and the places of records.
+// The file table: a descriptor judged after those before it.
 use model::Descriptor;
 use model::Verdict;
 ghost use mathlib.Core.Path.{_≡_};
