@@ -10,7 +10,7 @@ use Rattle.lists.specs.Choice.{by-cond}
 use Rattle.model.specs.declared.Written.{Written}
 use Rattle.model.specs.Stored.{chipOf, chipForm, recordSize}
 use Rattle.model.specs.Order.{orderLimit, complete, recordsFor, Writing, writeOf}
-use Rattle.writer.specs.Writes.{Writes}
+use Rattle.complete.specs.Writes.{Writes}
 
 abbrev Fits : ℕ → Writing → Type 0
 Fits room w = length (w .records) * recordSize ≤ room

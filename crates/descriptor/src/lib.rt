@@ -1,9 +1,9 @@
 // One descriptor of the file table: decoded, its fields judged, its size, and beside another one.
 use model::Descriptor;
 ghost use mathlib.Core.Path.{_≡_};
-ghost use Prim.Native.Nat.{_+_, _-_, _*_, _≤_, _<_};
+ghost use Prim.Native.Nat.{_-_, _<_};
 ghost use Rattle.descriptor.specs.Fields.{efFields};
-ghost use Rattle.model.specs.Table.{descriptorOf, dfOk, efType, clash, sizeOf, sizesOk, counterIn};
+ghost use Rattle.model.specs.Table.{descriptorOf, dfOk, efType, clash, counterIn};
 
 const BINARY: u8 = 0x01;
 
@@ -88,33 +88,6 @@ pub fn clash_of(d: Descriptor, e: Descriptor) -> bool
     d.sfi == e.sfi
 }
 
-// A file's bytes in the file area.
-pub fn size_of(d: Descriptor) -> usize
-    ensures { λ r. ⌜ (r ≡ sizeOf d) × (r ≤ 65535) ⌝ }
-{
-    let z = bytes::wide(d.recsize);
-    let n = bytes::wide(d.numrec);
-    if d.eftype == BINARY {
-        return 256 * z + n;
-    }
-    if d.eftype == SIMULATED {
-        return 0;
-    }
-    z * n
-}
-
-fn sizes_ok(d: Descriptor) -> bool
-    ensures { λ r. ⌜ r ≡ sizesOk d ⌝ }
-{
-    if d.eftype == BINARY {
-        return 1 <= size_of(d);
-    }
-    if d.recsize < 1 {
-        return false;
-    }
-    1 <= d.numrec
-}
-
 pub fn counter_in(d: Descriptor, e: Descriptor) -> bool
     ensures { λ r. ⌜ r ≡ counterIn d e ⌝ }
 {
@@ -142,7 +115,7 @@ pub fn ef_fields_ok(d: Descriptor) -> bool
         if d.status != 0 {
             return false;
         }
-        return sizes_ok(d);
+        return sizes::sizes_ok(d);
     }
     false
 }

@@ -3,8 +3,8 @@ use Prim.Native.Nat.{ℕ}
 use mathlib.Core.Path.{_≡_, refl}
 use lib.ListN.{length}
 use Rattle.model.specs.Lines.{lineWith, endOf}
-use Rattle.digits.specs.Trace.{widthOf, decimalOf}
-use Rattle.digits.proofs.Digits.{length-digits}
+use Rattle.hex.specs.Trace.{widthOf, decimalOf}
+use Rattle.hex.proofs.Digits.{length-digits}
 
 pub length-line : (n kind number word gp internal rows : ℕ) → length (lineWith n kind number word gp internal rows) ≡ 26
 unfolding lineWith

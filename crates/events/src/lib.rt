@@ -9,7 +9,7 @@ ghost use lib.ListN.{length};
 ghost use Rattle.model.specs.Stored.{areaSize};
 ghost use Rattle.model.specs.Events.{withLife, select, stuck, personalizing, otherwise, event};
 ghost use Rattle.soundness.specs.Keeps.{Good};
-ghost use Rattle.select.specs.Answers.{Answers};
+ghost use Rattle.fci.specs.Answers.{Answers};
 ghost use Rattle.store.specs.Ends.{eventOf};
 
 // The replies in '5A' of a card that is locked, or was just locked.
@@ -22,7 +22,7 @@ fn stuck_by(c: Card, answer: &mut [u8], kind: u8, d: &[u8]) -> Told
         if names::is_named(life, d) {
             return Told {
                 word: 0x6283,
-                answered: select::lay_name_fci(answer, c),
+                answered: fci::lay_name_fci(answer, c),
                 card: c,
             };
         }

@@ -27,7 +27,7 @@ fn put_value(out: &mut [u8], at: usize, value: &[u8]) -> usize
         out[at] = DASH;
         return at + 1;
     }
-    digits::put_hex(out, at, value)
+    hex::put_hex(out, at, value)
 }
 
 // The line of a grouping. The place behind it.
@@ -36,7 +36,7 @@ fn put_grouping(out: &mut [u8], at: usize, tag: u16, value: &[u8]) -> usize
     ensures { λ r. ⌜ (r ≤ length (now (out .entry))) × (length (now (out .exit)) ≡ length (now (out .entry))) ⌝ }
 {
     let number = [(tag / 256) as u8, (tag % 256) as u8];
-    digits::put_hex(out, at, &number);
+    hex::put_hex(out, at, &number);
     out[at + 4] = BLANK;
     let end = put_value(out, at + 5, value);
     out[end] = LINE_FEED;

@@ -44,11 +44,11 @@ fn put_states(out: &mut [u8], at: usize, word: u16, gp: u8, internal: u8)
     requires { ⌜ at + 11 ≤ length (now out) ⌝ }
     ensures { λ _. ⌜ now (out .exit) ≡ overwrite (now (out .entry)) at (hex4 word ++ blank ∷ hex2 gp ++ blank ∷ hex2 internal ++ blank ∷ []) ⌝ }
 {
-    digits::put_hex4(out, at, word);
+    hex::put_hex4(out, at, word);
     out[at + 4] = BLANK;
-    digits::put_hex2(out, at + 5, gp);
+    hex::put_hex2(out, at + 5, gp);
     out[at + 7] = BLANK;
-    digits::put_hex2(out, at + 8, internal);
+    hex::put_hex2(out, at + 8, internal);
     out[at + 10] = BLANK;
 }
 

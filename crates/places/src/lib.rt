@@ -22,7 +22,7 @@ fn spot_in(d: Descriptor, base: usize, nn: u8) -> Spot
         if nn == 0 {
             return Spot::At {
                 base: base,
-                size: descriptor::size_of(d),
+                size: sizes::size_of(d),
             };
         }
         return Spot::Nowhere;
@@ -61,7 +61,7 @@ pub fn spot_of(files: [Descriptor; 31], count: usize, sfi: u8, nn: u8) -> Spot
         if d.sfi == sfi {
             return spot_in(d, base, nn);
         }
-        base += descriptor::size_of(d);
+        base += sizes::size_of(d);
         i += 1;
     }
     Spot::Nowhere

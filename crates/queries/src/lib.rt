@@ -31,7 +31,7 @@ fn challenge_given(l: Loading) -> Step
     if l.internal != 0xCC {
         return content::failed_by(0x6985, l);
     }
-    if rows::is_due(l.rows, l.last, 1, 0x9484) {
+    if due::is_due(l.rows, l.last, 1, 0x9484) {
         return Step {
             course: Course::Asked(0x9484),
             load: steps::with_taken(l, 1),

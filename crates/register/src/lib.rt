@@ -38,7 +38,7 @@ fn enter_one(
     ensures { λ x. ⌜ (x ≡ turnOf c (now (area .entry)) (now (r .entry)) .card) × (now (area .exit) ≡ turnOf c (now (area .entry)) (now (r .entry)) .area) × (now (out .exit) ≡ overwrite (now (out .entry)) at (lineOf n (byteAt (now (r .entry)) 0) (turnOf c (now (area .entry)) (now (r .entry)) .number) (turnOf c (now (area .entry)) (now (r .entry)) .word) (turnOf c (now (area .entry)) (now (r .entry)) .card))) ⌝ }
 {
     let kind = r[0];
-    let p = card::turn(c, area, answer, r);
+    let p = turns::turn(c, area, answer, r);
     let next = p.card;
     lines::put_line(
         out,

@@ -1,16 +1,12 @@
-// The eleven-row table as constants, and the order in which rows may come.
+// The eleven-row table as constants, and the mandatory rows that are missing.
 use model::Row;
-use model::Verdict;
 ghost use mathlib.Core.Path.{_≡_};
 ghost use Prim.Native.Nat.{_+_, _-_, _≤_, _<_};
 ghost use lib.ListN.{take};
-ghost use Rattle.model.specs.Rows.{rowAt, rowOf, inRow, rowTable, missingFrom, mandatoryMissing, rising, due};
-ghost use Rattle.model.specs.Rules.{dueRow};
+ghost use Rattle.model.specs.Rows.{rowAt, rowOf, inRow, rowTable, missingFrom, mandatoryMissing};
 ghost use Rattle.rows.specs.Lacking.{lacking};
 
 const ROW_COUNT: usize = 11;
-
-const RECORD_ROW: usize = 11;
 
 const LONGEST: usize = 0xFFFE;
 
@@ -188,41 +184,4 @@ pub fn mandatory_missing(rows: u16) -> bool
     ensures { λ x. ⌜ x ≡ mandatoryMissing rows ⌝ }
 {
     missing_before(rows, ROW_COUNT)
-}
-
-fn is_rising(rows: u16, last: u16, tag: u16) -> bool
-    ensures { λ x. ⌜ x ≡ rising rows last tag ⌝ }
-{
-    if sets::is_taken(rows, RECORD_ROW) {
-        return last < tag;
-    }
-    true
-}
-
-// A row may come, with this tag.
-pub fn is_due(rows: u16, last: u16, r: usize, tag: u16) -> bool
-    requires { ⌜ (1 ≤ r) × (r ≤ 11) ⌝ }
-    ensures { λ x. ⌜ x ≡ due rows last r tag ⌝ }
-{
-    if missing_before(rows, r - 1) {
-        return false;
-    }
-    if r == RECORD_ROW {
-        return is_rising(rows, last, tag);
-    }
-    rows >> (r - 1) == 0
-}
-
-// Rule d: the row of a tag that may come now.
-pub fn due_row(rows: u16, last: u16, tag: u16) -> Verdict
-    ensures { λ v. ⌜ v ≡ dueRow rows last tag ⌝ }
-{
-    let r = row_of(tag);
-    if r == 0 {
-        return Verdict::Refuses(0x6A88);
-    }
-    if is_due(rows, last, r, tag) {
-        return Verdict::Passes(r);
-    }
-    Verdict::Refuses(0x6985)
 }

@@ -139,7 +139,7 @@ fn from_d(l: Loading, area: &mut [u8], capacity: u8, h: Head, d: &[u8], at: usiz
     requires { ⌜ Sure l (now area) × (l .pending ≡ Shut) × (eqb (l .internal) 0x5A ≡ true) × (at + h .size ≤ length (now d)) ⌝ }
     ensures { λ r. ⌜ stepped r (now (d .entry)) (now (area .exit)) ≡ fromD capacity h (drop at (now (d .entry))) (stateOf l (now (area .entry))) ⌝ }
 {
-    let verdict = rows::due_row(l.rows, l.last, h.tag);
+    let verdict = due::due_row(l.rows, l.last, h.tag);
     match verdict {
         Verdict::Passes(row) => from_e(l, area, capacity, row, h, d, at),
         Verdict::Refuses(w) => content::failed_by(w, l),

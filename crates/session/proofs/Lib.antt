@@ -1,5 +1,4 @@
 -- Records one after the other; and that each call has one result.
 pub mod Records
 pub mod Running
-pub mod Showing
 pub mod Single

@@ -13,7 +13,7 @@ use Rattle.model.specs.Stored.{areaSize}
 use Rattle.model.specs.Session.{Run, turnOf, recordsIn, after, runFrom}
 use Rattle.soundness.specs.Keeps.{Good}
 use Rattle.soundness.proofs.Sessions.{run-keeps}
-use Rattle.card.specs.Plays.{Plays}
+use Rattle.turns.specs.Plays.{Plays}
 use Rattle.card.proofs.Records.{records-more}
 use Rattle.session.specs.Runs.{begun, ranOf, Leaves}
 

@@ -7,8 +7,9 @@ use Rattle.model.specs.declared.Played.{Played}
 use Rattle.model.specs.declared.Ran.{Ran}
 use Rattle.model.specs.Rows.{takenOf}
 use Rattle.model.specs.Session.{Turn, Session, Shown}
-use Rattle.card.specs.Plays.{Plays}
-use Rattle.session.specs.Runs.{Runs, Shows}
+use Rattle.turns.specs.Plays.{Plays}
+use Rattle.session.specs.Runs.{Runs}
+use Rattle.showing.specs.Shows.{Shows}
 
 -- one event: the answer, the file area and the answer buffer
 pub play-single : (t : Turn) (before : List ℕ) (r r′ : Played) (area area′ after after′ : List ℕ)

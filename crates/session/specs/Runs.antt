@@ -6,7 +6,7 @@ use lib.ListN.{length}
 use Rattle.lists.specs.Over.{overwrite}
 use Rattle.model.specs.declared.Card.{Card}
 use Rattle.model.specs.declared.Ran.{Ran}
-use Rattle.model.specs.Session.{Run, Session, Shown, runFrom, recordsIn}
+use Rattle.model.specs.Session.{Run, Session, runFrom, recordsIn}
 
 -- a session that begins on a card
 abbrev pub begun : Card → List ℕ → Run
@@ -29,8 +29,3 @@ pub record Runs (s : Session) (r : Ran) (area before after : List ℕ) : Type 0 
   pub leaves : r .card ≡ s .run .card
   pub keeps : area ≡ s .run .area
   pub writes : after ≡ overwrite before 0 (s .run .words)
-
--- the part and the number are those of a shown record
-pub record Shows (s : Shown) (number : ℕ) (bytes : List ℕ) : Type 0 where
-  pub numbers : number ≡ s .number
-  pub shows : bytes ≡ s .bytes

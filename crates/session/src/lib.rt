@@ -1,15 +1,13 @@
-// A session on a card; a stored record shown; the rows counted.
+// A session on a card: its events one after the other.
 use model::Card;
 use model::Ran;
-use model::Spot;
 ghost use mathlib.Core.Path.{_≡_};
 ghost use Prim.Native.Nat.{_*_, _≤_};
 ghost use lib.ListN.{length};
 ghost use Rattle.model.specs.Stored.{areaSize};
-ghost use Rattle.model.specs.Rows.{takenOf};
-ghost use Rattle.model.specs.Session.{runOf, shownOf};
+ghost use Rattle.model.specs.Session.{runOf};
 ghost use Rattle.soundness.specs.Keeps.{Good};
-ghost use Rattle.session.specs.Runs.{ranOf, Leaves, Runs, Shows};
+ghost use Rattle.session.specs.Runs.{ranOf, Leaves, Runs};
 
 const AREA_SIZE: usize = 4096;
 
@@ -27,7 +25,7 @@ fn run_all(c: Card, area: &mut [u8], session: &[u8], words: &mut [u16], k: usize
     let mut i: usize = 0;
     while i < k {
         let at = i * RECORD_SIZE;
-        let x = card::turn(card, area, &mut answer, &session[at..at + RECORD_SIZE]);
+        let x = turns::turn(card, area, &mut answer, &session[at..at + RECORD_SIZE]);
         words[i] = x.word;
         let next = x.card;
         card = next;
@@ -69,38 +67,4 @@ pub fn run(c: Card, area: &mut [u8], session: &[u8], words: &mut [u16]) -> Ran
         };
     }
     not_run(6, c)
-}
-
-// A file's record, as the part of the file area where it is stored: 1, 6, 8 are checked in this order.
-pub fn shown<'a>(c: Card, area: &'a [u8], sfi: u8, nn: u8, number: &mut u8) -> &'a [u8]
-    ensures { λ r. ⌜ Shows (shownOf c (now (area .entry)) sfi nn) (now (number .exit)) (now r) ⌝ }
-{
-    if area.len() != AREA_SIZE {
-        *number = 1;
-        return &area[..0];
-    }
-    if sound::is_sound(c) {
-        let l = c.loading;
-        let files = l.files;
-        let spot = places::spot_of(files, l.count, sfi, nn);
-        match spot {
-            Spot::At { base, size } => {
-                *number = 0;
-                return &area[base..base + size];
-            }
-            Spot::Nowhere => {
-                *number = 8;
-                return &area[..0];
-            }
-        }
-    }
-    *number = 6;
-    &area[..0]
-}
-
-// How many rows have been taken.
-pub fn taken(c: Card) -> u32
-    ensures { λ n. ⌜ n ≡ takenOf (c .loading .rows) ⌝ }
-{
-    sets::count(c.loading.rows)
 }

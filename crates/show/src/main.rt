@@ -134,7 +134,7 @@ fn put_hex(out: &mut [u8], at: usize, bytes: &[u8]) -> usize
 {
     let mut digits = [0u8; 64];
     let n = at_most(bytes.len(), HEX_LINE);
-    digits::put_hex(&mut digits, 0, &bytes[..n]);
+    hex::put_hex(&mut digits, 0, &bytes[..n]);
     put(out, at, &digits[..2 * n])
 }
 
@@ -588,7 +588,7 @@ fn put_sizes(out: &mut [u8], at: usize, d: Descriptor) -> usize
     ensures { λ x. ⌜ x ≤ length (now (out .exit)) ⌝ }
 {
     if d.eftype == BINARY {
-        return put_many(out, at, descriptor::size_of(d) as u64, b"byte");
+        return put_many(out, at, sizes::size_of(d) as u64, b"byte");
     }
     let number = put_many(out, at, d.numrec as u64, b"record");
     let of = put(out, number, b" of ");
@@ -684,7 +684,7 @@ fn put_record(out: &mut [u8], at: usize, c: Card, area: &[u8], sfi: u8, nn: u8) 
     let label = put(out, at, b"    record ");
     let name = put_number(out, label, nn as u64);
     let mut number: u8 = 0;
-    let bytes = session::shown(c, area, sfi, nn, &mut number);
+    let bytes = showing::shown(c, area, sfi, nn, &mut number);
     if number != 0 {
         return put(out, name, b" cannot be shown\n");
     }
@@ -779,7 +779,7 @@ fn put_front(out: &mut [u8], c: Card, count: u64) -> usize
     let second = put_internal(out, first, l.internal);
     let third = put_events(out, second, count);
     let fourth = put_facts(out, third, l);
-    put_loaded(out, fourth, l, session::taken(c))
+    put_loaded(out, fourth, l, showing::taken(c))
 }
 
 // The card in words, with what the buffer holds at the end.

@@ -10,7 +10,7 @@ use Rattle.model.specs.declared.Life.{Life}
 use Rattle.model.specs.declared.Card.{Card}
 use Rattle.model.specs.Events.{Reply, says, withLife, withLoading, errs, commanded, storeData}
 use Rattle.model.specs.Command.{command}
-use Rattle.select.specs.Answers.{Answers, said}
+use Rattle.fci.specs.Answers.{Answers, said}
 use Rattle.steps.specs.declared.Course.{Course}
 use Rattle.steps.specs.declared.Course.the-variants.{Went, Asked, Failed}
 use Rattle.steps.specs.declared.Step.{Step}

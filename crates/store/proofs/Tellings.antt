@@ -8,7 +8,7 @@ use lib.ListN.{length}
 use Rattle.lists.specs.Over.{overwrite, over-then}
 use Rattle.model.specs.declared.Card.{Card}
 use Rattle.model.specs.Events.{says, answerTo, errs}
-use Rattle.select.specs.Answers.{Answers, said, gave}
+use Rattle.fci.specs.Answers.{Answers, said, gave}
 use Rattle.steps.specs.declared.Course.{Course}
 use Rattle.steps.specs.declared.Course.the-variants.{Went, Asked, Failed}
 use Rattle.store.specs.Ends.{commandedAs}

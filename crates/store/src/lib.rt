@@ -10,7 +10,7 @@ ghost use Rattle.lists.specs.Over.{overwrite};
 ghost use Rattle.model.specs.Stored.{areaSize};
 ghost use Rattle.model.specs.Events.{answerTo, storeData};
 ghost use Rattle.soundness.specs.Keeps.{Good};
-ghost use Rattle.select.specs.Answers.{Answers};
+ghost use Rattle.fci.specs.Answers.{Answers};
 ghost use Rattle.store.specs.Ends.{commandedAs};
 
 // What a query gives, at the front of the answer buffer: how many bytes it has.

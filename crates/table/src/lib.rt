@@ -103,7 +103,7 @@ fn total_of(files: [Descriptor; 31], count: usize) -> usize
     let mut i: usize = 0;
     while i < count {
         let e = files[i];
-        sum += descriptor::size_of(e);
+        sum += sizes::size_of(e);
         i += 1;
     }
     sum
@@ -116,7 +116,7 @@ pub fn admit(d: Descriptor, files: [Descriptor; 31], count: usize) -> Verdict
 {
     if rules_ok(d, files, count) {
         let before = total_of(files, count);
-        let size = descriptor::size_of(d);
+        let size = sizes::size_of(d);
         if before + size <= AREA_SIZE {
             return Verdict::Passes(0);
         }

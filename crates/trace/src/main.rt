@@ -64,7 +64,7 @@ fn put_front(out: &mut [u8], at: usize, bytes: &[u8], n: usize) -> usize
     }
     let k = at_most(n, bytes.len());
     slices::put_byte(out, at, BLANK);
-    digits::put_hex(out, at + 1, &bytes[..k])
+    hex::put_hex(out, at + 1, &bytes[..k])
 }
 
 fn put_byte(out: &mut [u8], at: usize, b: u8) -> usize
@@ -195,7 +195,7 @@ fn put_descriptors(out: &mut [u8], at: usize, files: [Descriptor; 31], count: us
     while i < count {
         let d = files[i];
         let bytes = stored(d);
-        to = digits::put_hex(out, to, &bytes);
+        to = hex::put_hex(out, to, &bytes);
         i += 1;
     }
     to
@@ -342,7 +342,7 @@ fn trace_one(
     requires { ⌜ Good areaSize c (now area) × (length (now answer) ≡ 64) × (length (now r) ≡ 260) × (at + 2200 ≤ length (now out)) ⌝ }
     ensures { λ x. ⌜ Good areaSize (x .card) (now (area .exit)) × (x .end ≤ at + 2200) ⌝ }
 {
-    let p = card::turn(c, area, answer, r);
+    let p = turns::turn(c, area, answer, r);
     let next = p.card;
     Traced {
         card: next,
@@ -451,7 +451,7 @@ fn put_area(out: &mut [u8], area: &[u8])
     requires { ⌜ (length (now out) ≡ 8198) × (length (now area) ≡ 4096) ⌝ }
 {
     slices::put_bytes(out, 0, b"AREA ");
-    let end = digits::put_hex(out, 5, area);
+    let end = hex::put_hex(out, 5, area);
     out[end] = LINE_FEED;
 }
 

@@ -1,4 +1,3 @@
 -- Completeness by the card's own walk; the writer's numbers; and what a card does with what was written.
-pub mod Complete
 pub mod Numbers
 pub mod Returns

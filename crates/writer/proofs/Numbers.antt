@@ -7,7 +7,7 @@ use lib.ListN.{length}
 use borrow.Author.Tests.{lt-ltb, le-ltb}
 use Rattle.model.specs.Stored.{chipOf, chipForm, recordSize}
 use Rattle.model.specs.Order.{orderLimit, complete, recordsFor, noWriting, writeOf}
-use Rattle.writer.specs.Writes.{cutFor, writeFor}
+use Rattle.complete.specs.Writes.{cutFor, writeFor}
 
 module _ (order : List ℕ) (room : ℕ) where
   pub no-room : room < length (recordsFor order) * recordSize → cutFor order room ≡ noWriting 11

@@ -17,7 +17,7 @@ use Rattle.cutting.proofs.Commands.{cut-sized}
 use Rattle.cutting.proofs.Stored.{record-length}
 use Rattle.cutting.proofs.Writes.{write-only, write-all, write-taken}
 use Rattle.cuts.specs.Cuts.{joined}
-use Rattle.writer.specs.Writes.{Writes, sessionIn}
+use Rattle.complete.specs.Writes.{Writes, sessionIn}
 
 told-one : (n n′ k k′ : ℕ) → n ≡ n′ → k ≡ k′ → _≡_ {A = Written} (record { number = n; count = k }) (record { number = n′; count = k′ })
 told-one n n′ k k′ p q = rw (p, q)

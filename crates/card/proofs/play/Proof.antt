@@ -7,14 +7,14 @@ use lib.ListN.{length, take, drop, set, getD, length-set, length-take, length-dr
 use denote.Ref.{now}
 use borrow.Author.Needs.{needs}
 use borrow.Author.Tests.{eq-eqb, ne-eqb, lt-ltb, le-ltb}
-use Rattle.card.proofs.Replies.{refused}
+use Rattle.turns.proofs.Replies.{refused}
 use Rattle.model.specs.Session.{playOf}
 use Rattle.card.proofs.play.Statement.{statement}
 use Rattle.card.proofs.play.Tie as tie
 use Rattle.card.proofs.play.Reads as reads
 use Rattle.card.proofs.play.Lts as lts
-use Rattle.card.proofs.refused_by.Reads as refused-by-reads
-use Rattle.card.proofs.turn.Reads as turn-reads
+use Rattle.turns.proofs.refused_by.Reads as refused-by-reads
+use Rattle.turns.proofs.turn.Reads as turn-reads
 use Rattle.sound.proofs.is_sound.Reads as is-sound-reads
 
 refused-by-requires : tie.Need-refused-by-requires

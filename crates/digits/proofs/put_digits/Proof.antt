@@ -3,8 +3,8 @@ use mathlib.Core.Path.{_≡_, sym, _∙_}
 use native.Mathlib.Omega.{arith}
 use lib.ListN.{length, length-set}
 use borrow.Author.Needs.{needs}
-use Rattle.digits.proofs.Digits.{digits-more, digits-none}
-use Rattle.digits.specs.Trace.{lastDigits}
+use Rattle.hex.proofs.Digits.{digits-more, digits-none}
+use Rattle.hex.specs.Trace.{lastDigits}
 use Rattle.lists.specs.Over.{overwrite}
 use Rattle.digits.proofs.put_digits.Statement.{statement}
 use Rattle.digits.proofs.put_digits.Tie as tie

@@ -4,7 +4,7 @@ use lib.ListN.{length-set}
 use denote.Ref.{now}
 use borrow.Author.Needs.{needs}
 use Rattle.lists.specs.Over.{length-over}
-use Rattle.digits.proofs.Runs.{run-five}
+use Rattle.hex.proofs.Runs.{run-five}
 use Rattle.digits.proofs.put_five.Statement.{statement}
 use Rattle.digits.proofs.put_five.Tie as tie
 

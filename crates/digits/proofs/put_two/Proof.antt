@@ -1,7 +1,7 @@
 use native.Mathlib.Omega.{arith}
 use lib.ListN.{length-set}
 use borrow.Author.Needs.{needs}
-use Rattle.digits.proofs.Runs.{run-two}
+use Rattle.hex.proofs.Runs.{run-two}
 use Rattle.digits.proofs.put_two.Statement.{statement}
 use Rattle.digits.proofs.put_two.Tie as tie
 

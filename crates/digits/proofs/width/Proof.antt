@@ -1,8 +1,8 @@
 use Prim.Native.Nat.{_+_, _-_, _≤_, _<_}
 use mathlib.Core.Path.{_≡_, refl, _∙_}
 use native.Mathlib.Omega.{arith}
-use Rattle.digits.proofs.Digits.{width-room, width-small, width-again, width-one}
-use Rattle.digits.specs.Trace.{widthOf, widthWith}
+use Rattle.hex.proofs.Digits.{width-room, width-small, width-again, width-one}
+use Rattle.hex.specs.Trace.{widthOf, widthWith}
 use Prim.Native.Nat.{_^_}
 use Rattle.digits.proofs.width.Statement.{statement}
 use Rattle.digits.proofs.width.Tie as tie

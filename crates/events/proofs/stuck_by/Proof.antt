@@ -1,7 +1,7 @@
 use borrow.Author.Needs.{needs}
 use borrow.Author.Tests.{eq-eqb, ne-eqb}
 use Rattle.model.specs.Events.{stuck, isName}
-use Rattle.select.specs.Answers.{said, gave}
+use Rattle.fci.specs.Answers.{said, gave}
 use Rattle.events.proofs.stuck_by.Statement.{statement}
 use Rattle.events.proofs.stuck_by.Tie as tie
 

@@ -2,7 +2,7 @@ use mathlib.Core.Path.{refl, ap, _∙_}
 use lib.ListN.{length}
 use borrow.Author.Needs.{needs}
 use native.Mathlib.Omega.{arith}
-use Rattle.digits.proofs.Runs.{run-end}
+use Rattle.hex.proofs.Runs.{run-end}
 use Rattle.model.specs.Lines.{endOf}
 use Rattle.lists.specs.Over.{length-over}
 use Rattle.lines.proofs.put_end.Statement.{statement}

@@ -3,7 +3,7 @@ use native.Mathlib.Omega.{arith}
 use lib.ListN.{length}
 use borrow.Author.Needs.{needs}
 use denote.Ref.{now}
-use Rattle.digits.proofs.Runs.{run-line}
+use Rattle.hex.proofs.Runs.{run-line}
 use Rattle.model.specs.Lines.{lineWith}
 use Rattle.lists.specs.Over.{length-over}
 use Rattle.lines.proofs.put_line.Statement.{statement}

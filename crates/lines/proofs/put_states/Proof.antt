@@ -3,7 +3,7 @@ use native.Mathlib.Omega.{arith}
 use lib.ListN.{length, length-set}
 use borrow.Author.Needs.{needs}
 use Rattle.lists.specs.Over.{length-over}
-use Rattle.digits.proofs.Runs.{run-fields}
+use Rattle.hex.proofs.Runs.{run-fields}
 use Rattle.lines.proofs.put_states.Statement.{statement}
 use Rattle.lines.proofs.put_states.Tie as tie
 

@@ -1,6 +1,6 @@
 use native.Mathlib.Omega.{arith}
 use borrow.Author.Needs.{needs}
-use Rattle.descriptor.proofs.Laws.{bytes-product}
+use Rattle.sizes.proofs.Laws.{bytes-product}
 use Rattle.lists.specs.Choice.{cases}
 use Rattle.places.proofs.spot_in.Statement.{statement}
 use Rattle.places.proofs.spot_in.Tie as tie

@@ -3,7 +3,7 @@ use mathlib.Core.Path.{_≡_, sym, _∙_}
 use native.Mathlib.Omega.{arith}
 use lib.ListN.{length, take, drop}
 use borrow.Author.Needs.{needs}
-use Rattle.descriptor.proofs.Laws.{spot-found, spot-more, spot-end}
+use Rattle.sizes.proofs.Laws.{spot-found, spot-more, spot-end}
 use Rattle.model.specs.Table.{spotFrom, spotOf}
 use borrow.Author.Tests.{eq-eqb, ne-eqb}
 use Rattle.places.proofs.spot_of.Statement.{statement}

@@ -14,7 +14,7 @@ use Rattle.queries.proofs.challenge_given.Reads as reads
 use Rattle.queries.proofs.challenge_given.Lts as lts
 use Rattle.steps.proofs.with_taken.Reads as with-taken-reads
 use Rattle.content.proofs.failed_by.Reads as failed-by-reads
-use Rattle.rows.proofs.is_due.Reads as is-due-reads
+use Rattle.due.proofs.is_due.Reads as is-due-reads
 
 failed-by-requires : tie.Need-failed-by-requires
 failed-by-requires c κs = search needs

@@ -10,7 +10,7 @@ use Rattle.register.proofs.enter_one.Statement.{statement}
 use Rattle.register.proofs.enter_one.Tie as tie
 use Rattle.register.proofs.enter_one.Reads as reads
 use Rattle.register.proofs.enter_one.Lts as lts
-use Rattle.card.proofs.turn.Reads as turn-reads
+use Rattle.turns.proofs.turn.Reads as turn-reads
 use Rattle.lines.proofs.put_line.Reads as put-line-reads
 
 shared-slice-read-kind : tie.Need-shared-slice-read-kind

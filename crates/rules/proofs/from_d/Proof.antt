@@ -15,7 +15,7 @@ use Rattle.rules.proofs.from_d.Reads as reads
 use Rattle.rules.proofs.from_d.Lts as lts
 use Rattle.content.proofs.failed_by.Reads as failed-by-reads
 use Rattle.rules.proofs.from_e.Reads as from-e-reads
-use Rattle.rows.proofs.due_row.Reads as due-row-reads
+use Rattle.due.proofs.due_row.Reads as due-row-reads
 
 due-row-requires : tie.Need-due-row-requires
 due-row-requires c κs = search needs

@@ -1,5 +1,5 @@
 use borrow.Author.Needs.{needs}
-use Rattle.select.specs.Answers.{said, gave}
+use Rattle.fci.specs.Answers.{said, gave}
 use Rattle.model.specs.Events.{select, isName}
 use borrow.Author.Tests.{eq-eqb, ne-eqb}
 use Rattle.select.proofs.selected_by.Statement.{statement}

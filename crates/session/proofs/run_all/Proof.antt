@@ -14,7 +14,7 @@ use Rattle.session.proofs.run_all.Statement.{statement}
 use Rattle.session.proofs.run_all.Tie as tie
 use Rattle.session.proofs.run_all.Reads as reads
 use Rattle.session.proofs.run_all.Lts as lts
-use Rattle.card.proofs.turn.Reads as turn-reads
+use Rattle.turns.proofs.turn.Reads as turn-reads
 
 abbrev Inv-loop : tie.InvT-loop
 Inv-loop area₀ session words₀ k answer₀ card₀ i₀ area words answer card i = (i ≤ k) × (length answer ≡ 64) × Leaves (ranOf i card₀ area₀ session) card area words₀ words

@@ -8,7 +8,7 @@ use denote.Ref.{now}
 use borrow.Author.Needs.{needs}
 use Rattle.store.proofs.Replies.{store-empty, store-command, store-unselected}
 use borrow.Author.Tests.{eq-eqb, ne-eqb}
-use Rattle.select.specs.Answers.{said}
+use Rattle.fci.specs.Answers.{said}
 use Rattle.store.proofs.Replies.{errs-told, course-told}
 use Rattle.store.proofs.Sure.{good-sure}
 use Rattle.model.specs.Events.{storeData}

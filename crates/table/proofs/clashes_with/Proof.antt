@@ -3,7 +3,7 @@ use mathlib.Core.Path.{_≡_, refl, sym, _∙_}
 use native.Mathlib.Omega.{arith}
 use lib.ListN.{length, take, drop}
 use borrow.Author.Needs.{needs}
-use Rattle.descriptor.proofs.Laws.{clashes-step, clashes-end}
+use Rattle.sizes.proofs.Laws.{clashes-step, clashes-end}
 use Rattle.model.specs.Table.{clashes}
 use Rattle.table.proofs.clashes_with.Statement.{statement}
 use Rattle.table.proofs.clashes_with.Tie as tie

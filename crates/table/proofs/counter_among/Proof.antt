@@ -3,7 +3,7 @@ use mathlib.Core.Path.{_≡_, refl, sym, _∙_}
 use native.Mathlib.Omega.{arith}
 use lib.ListN.{length, take, drop}
 use borrow.Author.Needs.{needs}
-use Rattle.descriptor.proofs.Laws.{counter-step, counter-end}
+use Rattle.sizes.proofs.Laws.{counter-step, counter-end}
 use Rattle.model.specs.Table.{counterAmong}
 use Rattle.table.proofs.counter_among.Statement.{statement}
 use Rattle.table.proofs.counter_among.Tie as tie

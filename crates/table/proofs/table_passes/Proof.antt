@@ -3,7 +3,7 @@ use mathlib.Core.Path.{_≡_, refl, sym}
 use native.Mathlib.Omega.{arith}
 use lib.ListN.{length}
 use borrow.Author.Needs.{needs}
-use Rattle.descriptor.proofs.Laws.{passes-more, passes-never}
+use Rattle.sizes.proofs.Laws.{passes-more, passes-never}
 use mathlib.Core.Bool.{true}
 use Rattle.model.specs.Table.{tablePasses}
 use Rattle.table.proofs.table_passes.Statement.{statement}

@@ -3,7 +3,7 @@ use mathlib.Core.Path.{_≡_}
 use native.Mathlib.Omega.{arith}
 use lib.ListN.{length, take, drop}
 use borrow.Author.Needs.{needs}
-use Rattle.descriptor.proofs.Laws.{total-more, total-end}
+use Rattle.sizes.proofs.Laws.{total-more, total-end}
 use Rattle.model.specs.Table.{total}
 use Rattle.table.proofs.total_of.Statement.{statement}
 use Rattle.table.proofs.total_of.Tie as tie

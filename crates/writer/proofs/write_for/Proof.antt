@@ -4,7 +4,7 @@ use lib.ListN.{length}
 use denote.Ref.{now}
 use borrow.Author.Needs.{needs}
 use Rattle.writer.proofs.Numbers.{too-long, not-complete, is-cut}
-use Rattle.writer.proofs.Complete.{complete-cuttable}
+use Rattle.complete.proofs.Complete.{complete-cuttable}
 use Rattle.cutting.proofs.Commands.{records-few}
 use Rattle.writer.proofs.write_for.Statement.{statement}
 use Rattle.writer.proofs.write_for.Tie as tie

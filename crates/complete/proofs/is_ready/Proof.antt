@@ -1,0 +1,21 @@
+use borrow.Author.Needs.{needs}
+use mathlib.Core.Path.{sym, _∙_}
+use Rattle.complete.proofs.Complete.{missing-not, ready-so}
+use Rattle.complete.proofs.is_ready.Statement.{statement}
+use Rattle.complete.proofs.is_ready.Tie as tie
+
+mandatory-missing-requires : tie.Need-mandatory-missing-requires
+mandatory-missing-requires c κs = search needs
+
+returns : tie.Need-returns
+returns c = λ a. missing-not (c .before .before .args .l) a (sym (c .before .mandatory-missing .ensures) ∙ c .if1 .taken)
+
+is-shut-requires : tie.Need-is-shut-requires
+is-shut-requires c κs = search needs
+
+returns-2 : tie.Need-returns-2
+returns-2 c =
+    λ a. ready-so (c .before .before .before .args .l) a (c .is-shut .result) (sym (c .before .before .mandatory-missing .ensures) ∙ c .before .if1 .left) (c .is-shut .ensures)
+
+pub is-ready-spec : {M : Type 1} → statement M
+is-ready-spec = tie.close (tie.spec mandatory-missing-requires returns is-shut-requires returns-2)

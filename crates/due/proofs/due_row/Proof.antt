@@ -1,0 +1,39 @@
+use Prim.Native.Nat.{ℕ, suc, _+_, _*_, _-_, _≤_, _<_, _/_, _%_}
+use mathlib.Core.Path.{_≡_, refl, ap, sym, _∙_}
+use mathlib.Core.List.{List, [], _∷_, _++_}
+use native.Mathlib.Omega.{arith}
+use native.Mathlib.Numerals.{add-one}
+use lib.ListN.{length, take, drop, set, getD, length-set, length-take, length-drop, length-append}
+use denote.Ref.{now}
+use borrow.Author.Needs.{needs}
+use borrow.Author.Tests.{eq-eqb, ne-eqb}
+use Rattle.model.specs.Rules.{dueRow}
+use Rattle.due.proofs.due_row.Statement.{statement}
+use Rattle.due.proofs.due_row.Tie as tie
+use Rattle.due.proofs.due_row.Reads as reads
+use Rattle.due.proofs.due_row.Lts as lts
+use Rattle.due.proofs.is_due.Reads as is-due-reads
+use Rattle.rows.proofs.row_of.Reads as row-of-reads
+
+row-of-requires : tie.Need-row-of-requires
+row-of-requires c κs = search needs
+
+returns : tie.Need-returns
+unfolding dueRow
+returns c = simp (← c .before .row-of .ensures .0, eq-eqb _ _ (c .if1 .taken))
+
+is-due-requires : tie.Need-is-due-requires
+is-due-requires c κs = search needs
+
+returns-2 : tie.Need-returns-2
+unfolding dueRow
+returns-2 c =
+    simp (← c .before .before .before .row-of .ensures .0, ne-eqb _ _ (c .before .before .if1 .left), ← c .before .is-due .ensures, c .if2 .taken)
+
+returns-3 : tie.Need-returns-3
+unfolding dueRow
+returns-3 c =
+    simp (← c .before .before .before .row-of .ensures .0, ne-eqb _ _ (c .before .before .if1 .left), ← c .before .is-due .ensures, c .if2 .left)
+
+pub due-row-spec : {M : Type 1} → statement M
+due-row-spec = tie.close (tie.spec row-of-requires returns is-due-requires returns-2 returns-3)

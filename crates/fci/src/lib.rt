@@ -1,0 +1,50 @@
+// Both FCIs, laid at the front of the answer buffer.
+use model::Card;
+use model::Life;
+ghost use mathlib.Core.Path.{_≡_};
+ghost use Prim.Native.Nat.{_+_, _≤_};
+ghost use lib.ListN.{length};
+ghost use Rattle.lists.specs.Over.{overwrite};
+ghost use Rattle.model.specs.Events.{nameFci, fullFci};
+ghost use Rattle.fci.specs.Answers.{front};
+
+// What both FCIs begin with, at the front of the answer buffer: 6F, a length of n and `more`, 84, n, the name.
+fn lay_front(answer: &mut [u8], life: Life, more: usize)
+    requires { ⌜ (64 ≤ length (now answer)) × (life .namelen ≤ 16) × (more ≤ 26) ⌝ }
+    ensures { λ _. ⌜ now (answer .exit) ≡ overwrite (now (answer .entry)) 0 (front more life) ⌝ }
+{
+    let name = life.name;
+    let n = life.namelen;
+    slices::put_bytes(answer, 0, b"\x6F");
+    slices::put_byte(answer, 1, (n + more) as u8);
+    slices::put_bytes(answer, 2, b"\x84");
+    slices::put_byte(answer, 3, n as u8);
+    slices::put_bytes(answer, 4, &name[..n]);
+}
+
+// The name FCI: how many bytes it has.
+pub fn lay_name_fci(answer: &mut [u8], c: Card) -> usize
+    requires { ⌜ (64 ≤ length (now answer)) × (c .life .namelen ≤ 16) ⌝ }
+    ensures { λ r. ⌜ (r ≡ length (nameFci c)) × (now (answer .exit) ≡ overwrite (now (answer .entry)) 0 (nameFci c)) ⌝ }
+{
+    let life = c.life;
+    lay_front(answer, life, 2);
+    life.namelen + 4
+}
+
+// The full FCI.
+pub fn lay_full_fci(answer: &mut [u8], c: Card) -> usize
+    requires { ⌜ (64 ≤ length (now answer)) × (c .life .namelen ≤ 16) ⌝ }
+    ensures { λ r. ⌜ (r ≡ length (fullFci c)) × (now (answer .exit) ≡ overwrite (now (answer .entry)) 0 (fullFci c)) ⌝ }
+{
+    let life = c.life;
+    let n = life.namelen;
+    let serial = c.loading.serial;
+    let startup = c.loading.startup;
+    lay_front(answer, life, 26);
+    slices::put_bytes(answer, 4 + n, b"\xA5\x16\xBF\x0C\x13\xC7\x08");
+    slices::put_bytes(answer, 11 + n, &serial);
+    slices::put_bytes(answer, 19 + n, b"\x53\x07");
+    slices::put_bytes(answer, 21 + n, &startup);
+    n + 28
+}

@@ -1,0 +1,84 @@
+use Prim.Native.Nat.{_-_, _≤_, _<_}
+use mathlib.Core.Path.{_≡_, sym, _∙_}
+use native.Mathlib.Omega.{arith}
+use lib.ListN.{length, take}
+use denote.Ref.{now}
+use borrow.Author.Needs.{needs}
+use lib.Seq.{take-all}
+use Rattle.hex.proofs.Digits.{hex-more}
+use Rattle.hex.specs.Trace.{hexOf}
+use Rattle.lists.specs.Over.{overwrite, over-none, length-over}
+use Rattle.hex.proofs.put_hex.Statement.{statement}
+use Rattle.hex.proofs.put_hex.Tie as tie
+
+abbrev Inv-loop : tie.InvT-loop
+Inv-loop out₀ at bytes i₀ out i = (i ≤ length bytes) × (out ≡ overwrite out₀ at (hexOf (take i bytes)))
+
+abbrev μ-loop : tie.MeasureT-loop
+μ-loop out₀ at bytes i₀ out i = length bytes - i
+
+loop-holds : tie.Need-loop-holds Inv-loop μ-loop
+unfolding hexOf
+loop-holds c = (search needs, sym (over-none _ _))
+
+mul-put-hex2 : tie.Need-mul-put-hex2 Inv-loop μ-loop
+mul-put-hex2 c = search needs
+
+add-put-hex2 : tie.Need-add-put-hex2 Inv-loop μ-loop
+add-put-hex2 c = search needs
+
+shared-slice-read-put-hex2 : tie.Need-shared-slice-read-put-hex2 Inv-loop μ-loop
+shared-slice-read-put-hex2 c = search needs
+
+put-hex2-requires : tie.Need-put-hex2-requires Inv-loop μ-loop
+put-hex2-requires c κs =
+    let l = c .before .before .before .loop in
+    rw (l .inv .1, length-over) (omega arith)
+
+add-i : tie.Need-add-i Inv-loop μ-loop
+add-i c = search needs
+
+loop-less : tie.Need-loop-less Inv-loop μ-loop
+loop-less c = search needs
+
+loop-again : tie.Need-loop-again Inv-loop μ-loop
+loop-again c =
+    let l = c .before .before .before .before .before .before .loop in
+    let a = c .before .before .before .before .before .before .before .before .before .args in
+    let h : l .i < length (now (a .bytes)) = omega arith in
+    (omega arith, c .before .before .put-hex2 .ensures ∙ rw (l .inv .1) (hex-more (now (a .out)) (now (a .bytes)) (a .at) (l .i) h))
+
+mul-result : tie.Need-mul-result Inv-loop μ-loop
+mul-result c = search needs
+
+add-result : tie.Need-add-result Inv-loop μ-loop
+add-result c = search needs
+
+same-length : tie.Need-same-length Inv-loop μ-loop
+same-length c = rw (c .before .loop .inv .1, length-over)
+
+returns : tie.Need-returns Inv-loop μ-loop
+returns c =
+    let l = c .before .loop in
+    let a = c .before .before .before .before .args in
+    let e : take (l .i) (now (a .bytes)) ≡ now (a .bytes) = take-all (l .i) (now (a .bytes)) (omega arith) in
+    (omega arith, rw (l .inv .1, length-over), l .inv .1 ∙ rw e)
+
+pub put-hex-spec : {M : Type 1} → statement M
+put-hex-spec =
+    tie.close
+    (tie.spec
+    Inv-loop
+    μ-loop
+    loop-holds
+    mul-put-hex2
+    add-put-hex2
+    shared-slice-read-put-hex2
+    put-hex2-requires
+    add-i
+    loop-less
+    loop-again
+    mul-result
+    add-result
+    same-length
+    returns)

@@ -1,0 +1,49 @@
+use native.Mathlib.Omega.{arith}
+use borrow.Author.Needs.{needs}
+use Rattle.sizes.proofs.Laws.{bytes-product}
+use Rattle.lists.specs.Choice.{cases}
+use Rattle.sizes.proofs.size_of.Statement.{statement}
+use Rattle.sizes.proofs.size_of.Tie as tie
+
+wide-requires : tie.Need-wide-requires
+wide-requires c κs = search needs
+
+wide-requires-2 : tie.Need-wide-requires-2
+wide-requires-2 c κs = search needs
+
+mul-result : tie.Need-mul-result
+mul-result c = search needs
+
+add-result : tie.Need-add-result
+add-result c = search needs
+
+returns : tie.Need-returns
+returns c =
+    (rw (c .before .before .wide2 .ensures .0, c .before .before .before .wide .ensures .0) (search cases), search needs)
+
+returns-2 : tie.Need-returns-2
+returns-2 c = (search cases, search needs)
+
+mul-result-2 : tie.Need-mul-result-2
+mul-result-2 c =
+    let b = c .before .before .before .before in
+    omega (arith, bytes-product (b .before .wide .ensures .1) (b .wide2 .ensures .1))
+
+returns-3 : tie.Need-returns-3
+returns-3 c =
+    let b = c .before .before .before .before in
+    let product = bytes-product (b .before .wide .ensures .1) (b .wide2 .ensures .1) in
+    (rw (b .wide2 .ensures .0, b .before .wide .ensures .0) (search cases), omega arith)
+
+pub size-of-spec : {M : Type 1} → statement M
+size-of-spec =
+    tie.close
+    (tie.spec
+    wide-requires
+    wide-requires-2
+    mul-result
+    add-result
+    returns
+    returns-2
+    mul-result-2
+    returns-3)
