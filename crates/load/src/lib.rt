@@ -34,25 +34,18 @@ pub fn walked(l: Loading, area: &mut [u8], capacity: u8, p1: u8, d: &[u8], at: u
             };
         }
         let s = rules::grouping_at(load, area, capacity, p1, d, i);
-        let next = s.load;
         let course = s.course;
         match course {
             Course::Went(j) => {
-                load = next;
+                load = s.load;
                 i = j;
                 turns -= 1;
             }
-            Course::Asked(t) => {
-                return Step {
-                    course: Course::Asked(t),
-                    load: next,
-                };
+            Course::Asked(_) => {
+                return s;
             }
-            Course::Failed(w) => {
-                return Step {
-                    course: Course::Failed(w),
-                    load: next,
-                };
+            Course::Failed(_) => {
+                return s;
             }
         }
     }
@@ -103,15 +96,11 @@ fn walked_on(l: Loading, area: &mut [u8], capacity: u8, p1: u8, d: &[u8], at: us
     ensures { λ r. ⌜ ended r (now (area .exit)) ≡ thence (walk (length (now (d .entry)) - at) capacity (length (now (d .entry))) p1 (drop at (now (d .entry))) (stateOf l (now (area .entry)))) (λ n. theEnd p1) ⌝ }
 {
     let s = walked(l, area, capacity, p1, d, at);
-    let load = s.load;
     let course = s.course;
     match course {
-        Course::Went(_) => ended_by(load, p1),
-        Course::Asked(t) => Step {
-            course: Course::Asked(t),
-            load: load,
-        },
-        Course::Failed(w) => content::failed_by(w, load),
+        Course::Went(_) => ended_by(s.load, p1),
+        Course::Asked(_) => s,
+        Course::Failed(_) => s,
     }
 }
 
@@ -121,20 +110,16 @@ pub fn commanded(l: Loading, area: &mut [u8], capacity: u8, p1: u8, d: &[u8]) ->
     ensures { λ r. ⌜ ended r (now (area .exit)) ≡ command capacity p1 (now (d .entry)) (stateOf l (now (area .entry))) ⌝ }
 {
     let s = feed::fed_first(l, area, d);
-    let load = s.load;
     let course = s.course;
     match course {
         Course::Went(at) => {
             // nothing is left behind the data
             if d.len() < at {
-                return ended_by(load, p1);
+                return ended_by(s.load, p1);
             }
-            walked_on(load, area, capacity, p1, d, at)
+            walked_on(s.load, area, capacity, p1, d, at)
         }
-        Course::Asked(t) => Step {
-            course: Course::Asked(t),
-            load: load,
-        },
-        Course::Failed(w) => content::failed_by(w, load),
+        Course::Asked(_) => s,
+        Course::Failed(_) => s,
     }
 }

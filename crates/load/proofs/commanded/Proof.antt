@@ -13,6 +13,7 @@ use Rattle.model.specs.Stored.{areaSize}
 use Rattle.model.specs.Command.{command}
 use Rattle.records.proofs.Walks.{walk-ends}
 use Rattle.steps.specs.Steps.{stateOf, coursed, activeLife}
+use Rattle.records.specs.Steps.{endedAs}
 use Rattle.steps.specs.declared.Course.{Course}
 use Rattle.load.proofs.commanded.Statement.{statement}
 use Rattle.load.proofs.commanded.Tie as tie
@@ -20,7 +21,6 @@ use Rattle.load.proofs.commanded.Reads as reads
 use Rattle.load.proofs.commanded.Lts as lts
 use Rattle.feed.proofs.fed_first.Reads as fed-first-reads
 use Rattle.load.proofs.ended_by.Reads as ended-by-reads
-use Rattle.content.proofs.failed_by.Reads as failed-by-reads
 use Rattle.load.proofs.walked_on.Reads as walked-on-reads
 
 fed-first-requires : tie.Need-fed-first-requires
@@ -38,29 +38,26 @@ same-length c = search needs
 returns : tie.Need-returns
 unfolding command
 returns c =
-    let f = c .before .before .before .before .before .before .before .before in
+    let f = c .before .before .before .before .before .before .before in
     let s = f .before .before .before .before .args in
     let t = stateOf (f .fed-first .result .load) (f .fed-first .last .1 .0) in
-    let e = sym (ap (λ (x : Course). coursed x (now (s .d)) t) (c .before .before .before .course .given .1)) ∙ f .fed-first .ensures in
-    c .ended-by .ensures _
-    ∙ rw (← e, walk-ends (s .capacity) (length (now (s .d))) (s .p1) t (length (drop (c .before .before .before .course .given .0 .0) (now (s .d)))) (c .before .before .before .course .given .0 .0) (now (s .d)) (omega arith))
+    let g = c .before .before .before .course .given in
+    let e = sym (ap (λ (x : Course). coursed x (now (s .d)) t) (g .1)) ∙ f .fed-first .ensures in
+    c .ended-by .ensures _ ∙ rw (← e, walk-ends (s .capacity) (length (now (s .d))) (s .p1) t (length (drop (g .0 .0) (now (s .d)))) (g .0 .0) (now (s .d)) (omega arith))
 
 walked-on-requires : tie.Need-walked-on-requires
 walked-on-requires c κs =
-    let f = c .before .before .before .before .before .before .before .before in
+    let f = c .before .before .before .before .before .before .before in
     let s = f .before .before .before .before in
     let t = stateOf (f .fed-first .result .load) (f .fed-first .last .1 .0) in
     let e = sym (ap (λ (x : Course). coursed x (now (s .args .d)) t) (c .before .before .before .course .given .1)) ∙ f .fed-first .ensures in
     (omega arith, subst (GoesOn activeLife areaSize) (sym e) (fed-goes activeLife areaSize refl refl (now (s .args .d)) (stateOf (s .args .l) (now (s .args .area))) (s .pre)))
 
-enum-known-course-2 : tie.Need-enum-known-course-2
-enum-known-course-2 c = search needs
+enum-told : tie.Need-enum-told
+enum-told c = search needs
 
-enum-known-course-3 : tie.Need-enum-known-course-3
-enum-known-course-3 c = search needs
-
-failed-by-requires : tie.Need-failed-by-requires
-failed-by-requires c κs = search needs
+enum-told-2 : tie.Need-enum-told-2
+enum-told-2 c = search needs
 
 same-length-2 : tie.Need-same-length-2
 same-length-2 c = search needs
@@ -68,12 +65,12 @@ same-length-2 c = search needs
 returns-2 : tie.Need-returns-2
 unfolding command
 returns-2 c =
-    let f = c .before .before .before .before .before .before .before .before .before .before .before in
+    let f = c .before .before .before .before .before .before .before .before .before .before in
     let s = f .before .before .before .before .args in
     let t = stateOf (f .fed-first .result .load) (f .fed-first .last .1 .0) in
-    let at = c .before .before .before .before .before .before .course .given .0 .0 in
-    let e = sym (ap (λ (x : Course). coursed x (now (s .d)) t) (c .before .before .before .before .before .before .course .given .1)) ∙ f .fed-first .ensures in
-    c .before .before .walked-on .ensures ∙ rw (← e, length-drop at (now (s .d)))
+    let g = c .before .before .before .before .before .before .course .given in
+    let e = sym (ap (λ (x : Course). coursed x (now (s .d)) t) (g .1)) ∙ f .fed-first .ensures in
+    c .before .before .walked-on .ensures ∙ rw (← e, length-drop (g .0 .0) (now (s .d)))
 
 same-length-3 : tie.Need-same-length-3
 same-length-3 c = search needs
@@ -81,11 +78,12 @@ same-length-3 c = search needs
 returns-3 : tie.Need-returns-3
 unfolding command
 returns-3 c =
-    let f = c .before .before .before .before .before .before in
+    let f = c .before .before .before .before in
     let s = f .before .before .before .before .args in
     let t = stateOf (f .fed-first .result .load) (f .fed-first .last .1 .0) in
-    let e = sym (ap (λ (x : Course). coursed x (now (s .d)) t) (c .before .course2 .given .1)) ∙ f .fed-first .ensures in
-    rw (← e)
+    let g = c .enum-told .given .1 in
+    let e = sym (ap (λ (x : Course). coursed x (now (s .d)) t) g) ∙ f .fed-first .ensures in
+    ap (λ (x : Course). endedAs x t) g ∙ rw (← e)
 
 same-length-4 : tie.Need-same-length-4
 same-length-4 c = search needs
@@ -93,11 +91,12 @@ same-length-4 c = search needs
 returns-4 : tie.Need-returns-4
 unfolding command
 returns-4 c =
-    let f = c .before .before .before .before .before .before .before in
+    let f = c .before .before .before .before in
     let s = f .before .before .before .before .args in
     let t = stateOf (f .fed-first .result .load) (f .fed-first .last .1 .0) in
-    let e = sym (ap (λ (x : Course). coursed x (now (s .d)) t) (c .before .before .course3 .given .1)) ∙ f .fed-first .ensures in
-    rw (c .failed-by .ensures, ← e)
+    let g = c .enum-told2 .given .1 in
+    let e = sym (ap (λ (x : Course). coursed x (now (s .d)) t) g) ∙ f .fed-first .ensures in
+    ap (λ (x : Course). endedAs x t) g ∙ rw (← e)
 
 pub commanded-spec : {M : Type 1} → statement M
 commanded-spec =
@@ -109,9 +108,8 @@ commanded-spec =
     same-length
     returns
     walked-on-requires
-    enum-known-course-2
-    enum-known-course-3
-    failed-by-requires
+    enum-told
+    enum-told-2
     same-length-2
     returns-2
     same-length-3

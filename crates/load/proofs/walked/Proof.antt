@@ -11,7 +11,7 @@ use Rattle.steps.specs.declared.Course.{Course}
 use Rattle.model.specs.Rules.{grouping, went, asked, failed}
 use Rattle.model.specs.Command.{walk}
 use Rattle.steps.specs.Steps.{stateOf}
-use Rattle.records.specs.Steps.{Walking}
+use Rattle.records.specs.Steps.{Walking, endedAs}
 use Rattle.records.proofs.Walks.{walk-ends, walk-out, walk-turn, walk-goes}
 use Rattle.model.specs.Loads.{withLast}
 use Rattle.load.proofs.walked.Statement.{statement}
@@ -73,45 +73,49 @@ loop-again c =
     let x = stateOf (withLast (f .run-from .result .last) (l .load)) (f .run-from .last .1 .0) in
     let g = c .before .before .before .before .before .before in
     let t = stateOf (g .grouping-at .result .load) (g .grouping-at .last .1 .0) in
-    let e = sym (ap (λ (y : Course). coursed y (now (s .d)) t) (c .before .course .given .1)) ∙ g .grouping-at .ensures in
-    let w = walk-goes (s .capacity) (length (now (s .d))) (s .p1) x (f .run-from .result .turns) (f .run-from .result .at) (c .before .course .given .0 .0) (now (s .d)) t (omega (arith, r .0)) (omega arith) (r .2) e in
+    let e = sym (ap (λ (y : Course). coursed y (now (s .d)) t) (c .before .before .course .given .1)) ∙ g .grouping-at .ensures in
+    let w = walk-goes (s .capacity) (length (now (s .d))) (s .p1) x (f .run-from .result .turns) (f .run-from .result .at) (c .before .before .course .given .0 .0) (now (s .d)) t (omega (arith, r .0)) (omega arith) (r .2) e in
     (w .0, g .grouping-at .kept .1 .0 ∙ f .run-from .kept .1 .0 ∙ l .inv .1, l .inv .2 ∙ r .3 _ _ _ ∙ w .1)
 
-enum-known-course-2 : tie.Need-enum-known-course-2 Inv-loop μ-loop
-enum-known-course-2 c = search needs
+enum-told : tie.Need-enum-told Inv-loop μ-loop
+enum-told c = search needs
 
 same-length-2 : tie.Need-same-length-2 Inv-loop μ-loop
 same-length-2 c = search needs
 
 returns-2 : tie.Need-returns-2 Inv-loop μ-loop
 returns-2 c =
-    let f = c .before .before .before .before .before .before .before .before .before .before .before in
+    let f = c .before .before .before .before .before .before .before .before .before in
     let l = f .before .before .before .loop in
     let s = f .before .before .before .before .before .before .args in
     let r = f .run-from .ensures in
     let x = stateOf (withLast (f .run-from .result .last) (l .load)) (f .run-from .last .1 .0) in
-    let g = c .before .before .before .before .before .before in
+    let g = c .before .before .before .before in
     let t = stateOf (g .grouping-at .result .load) (g .grouping-at .last .1 .0) in
-    let e = sym (ap (λ (y : Course). coursed y (now (s .d)) t) (c .before .course2 .given .1)) ∙ g .grouping-at .ensures in
-    sym (l .inv .2 ∙ r .3 _ _ _ ∙ walk-turn (s .capacity) (length (now (s .d))) (s .p1) x (f .run-from .result .turns) (f .run-from .result .at) (now (s .d)) (omega (arith, r .0)) (omega arith) ∙ rw (← e))
+    let k = c .enum-told .given .1 in
+    let e = sym (ap (λ (y : Course). coursed y (now (s .d)) t) k) ∙ g .grouping-at .ensures in
+    ap (λ (y : Course). endedAs y t) k
+    ∙ sym (l .inv .2 ∙ r .3 _ _ _ ∙ walk-turn (s .capacity) (length (now (s .d))) (s .p1) x (f .run-from .result .turns) (f .run-from .result .at) (now (s .d)) (omega (arith, r .0)) (omega arith) ∙ rw (← e))
 
-enum-known-course-3 : tie.Need-enum-known-course-3 Inv-loop μ-loop
-enum-known-course-3 c = search needs
+enum-told-2 : tie.Need-enum-told-2 Inv-loop μ-loop
+enum-told-2 c = search needs
 
 same-length-3 : tie.Need-same-length-3 Inv-loop μ-loop
 same-length-3 c = search needs
 
 returns-3 : tie.Need-returns-3 Inv-loop μ-loop
 returns-3 c =
-    let f = c .before .before .before .before .before .before .before .before .before .before .before in
+    let f = c .before .before .before .before .before .before .before .before .before in
     let l = f .before .before .before .loop in
     let s = f .before .before .before .before .before .before .args in
     let r = f .run-from .ensures in
     let x = stateOf (withLast (f .run-from .result .last) (l .load)) (f .run-from .last .1 .0) in
-    let g = c .before .before .before .before .before .before in
+    let g = c .before .before .before .before in
     let t = stateOf (g .grouping-at .result .load) (g .grouping-at .last .1 .0) in
-    let e = sym (ap (λ (y : Course). coursed y (now (s .d)) t) (c .before .course3 .given .1)) ∙ g .grouping-at .ensures in
-    sym (l .inv .2 ∙ r .3 _ _ _ ∙ walk-turn (s .capacity) (length (now (s .d))) (s .p1) x (f .run-from .result .turns) (f .run-from .result .at) (now (s .d)) (omega (arith, r .0)) (omega arith) ∙ rw (← e))
+    let k = c .enum-told2 .given .1 in
+    let e = sym (ap (λ (y : Course). coursed y (now (s .d)) t) k) ∙ g .grouping-at .ensures in
+    ap (λ (y : Course). endedAs y t) k
+    ∙ sym (l .inv .2 ∙ r .3 _ _ _ ∙ walk-turn (s .capacity) (length (now (s .d))) (s .p1) x (f .run-from .result .turns) (f .run-from .result .at) (now (s .d)) (omega (arith, r .0)) (omega arith) ∙ rw (← e))
 
 same-length-4 : tie.Need-same-length-4 Inv-loop μ-loop
 same-length-4 c = search needs
@@ -138,10 +142,10 @@ walked-spec =
     sub-turns-2
     loop-less
     loop-again
-    enum-known-course-2
+    enum-told
     same-length-2
     returns-2
-    enum-known-course-3
+    enum-told-2
     same-length-3
     returns-3
     same-length-4

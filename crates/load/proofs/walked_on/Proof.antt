@@ -14,7 +14,6 @@ use Rattle.load.proofs.walked_on.Tie as tie
 use Rattle.load.proofs.walked_on.Reads as reads
 use Rattle.load.proofs.walked_on.Lts as lts
 use Rattle.load.proofs.ended_by.Reads as ended-by-reads
-use Rattle.content.proofs.failed_by.Reads as failed-by-reads
 use Rattle.load.proofs.walked.Reads as walked-reads
 
 walked-requires : tie.Need-walked-requires
@@ -26,21 +25,18 @@ enum-told c = search needs
 ended-by-requires : tie.Need-ended-by-requires
 ended-by-requires c κs = search needs
 
-enum-known-course : tie.Need-enum-known-course
-enum-known-course c = search needs
+enum-told-2 : tie.Need-enum-told-2
+enum-told-2 c = search needs
 
-enum-known-course-2 : tie.Need-enum-known-course-2
-enum-known-course-2 c = search needs
-
-failed-by-requires : tie.Need-failed-by-requires
-failed-by-requires c κs = search needs
+enum-told-3 : tie.Need-enum-told-3
+enum-told-3 c = search needs
 
 same-length : tie.Need-same-length
 same-length c = search needs
 
 returns : tie.Need-returns
 returns c =
-    let w = c .before .before .before .before .before .before in
+    let w = c .before .before .before .before .before in
     let t = stateOf (w .walked .result .load) (w .walked .last .1 .0) in
     let e = sym (ap (λ (x : Course). endedAs x t) (c .before .enum-told .given .1)) ∙ w .walked .ensures in
     c .ended-by .ensures _ ∙ rw (← e)
@@ -50,20 +46,22 @@ same-length-2 c = search needs
 
 returns-2 : tie.Need-returns-2
 returns-2 c =
-    let w = c .before .before .before .before .before .before in
+    let w = c .before .before .before .before in
     let t = stateOf (w .walked .result .load) (w .walked .last .1 .0) in
-    let e = sym (ap (λ (x : Course). endedAs x t) (c .before .course .given .1)) ∙ w .walked .ensures in
-    rw (← e)
+    let k = ap (λ (x : Course). endedAs x t) (c .enum-told2 .given .1) in
+    let e = sym k ∙ w .walked .ensures in
+    k ∙ rw (← e)
 
 same-length-3 : tie.Need-same-length-3
 same-length-3 c = search needs
 
 returns-3 : tie.Need-returns-3
 returns-3 c =
-    let w = c .before .before .before .before .before .before .before in
+    let w = c .before .before .before .before in
     let t = stateOf (w .walked .result .load) (w .walked .last .1 .0) in
-    let e = sym (ap (λ (x : Course). endedAs x t) (c .before .before .course2 .given .1)) ∙ w .walked .ensures in
-    rw (c .failed-by .ensures, ← e)
+    let k = ap (λ (x : Course). endedAs x t) (c .enum-told3 .given .1) in
+    let e = sym k ∙ w .walked .ensures in
+    k ∙ rw (← e)
 
 pub walked-on-spec : {M : Type 1} → statement M
 walked-on-spec =
@@ -72,9 +70,8 @@ walked-on-spec =
     walked-requires
     enum-told
     ended-by-requires
-    enum-known-course
-    enum-known-course-2
-    failed-by-requires
+    enum-told-2
+    enum-told-3
     same-length
     returns
     same-length-2
