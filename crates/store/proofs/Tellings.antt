@@ -36,16 +36,6 @@ pub reference-laid : (a reference challenge : List ℕ) {a1 a2 : List ℕ} → l
     → a2 ≡ overwrite a 0 (reference ++ challenge)
 reference-laid a r h e f g = cc (over-then r h a 0 4 (omega arith))
 
--- both states, by the equation of each store
-pub states-laid : (a : List ℕ) (gp internal : ℕ) {a1 a2 a3 a4 : List ℕ}
-    → a1 ≡ overwrite a 0 (0x9F ∷ 0x70 ∷ 0x01 ∷ []) → a2 ≡ overwrite a1 3 (gp ∷ []) → a3 ≡ overwrite a2 4 (0x9F ∷ 0xDC ∷ 0x01 ∷ [])
-    → a4 ≡ overwrite a3 7 (internal ∷ [])
-    → a4 ≡ overwrite a 0 (states gp internal)
-states-laid a gp internal e1 e2 e3 e4 =
-    cc (over-then (0x9F ∷ 0x70 ∷ 0x01 ∷ []) (gp ∷ 0x9F ∷ 0xDC ∷ 0x01 ∷ internal ∷ []) a 0 3 refl
-    ∙ over-then (gp ∷ []) (0x9F ∷ 0xDC ∷ 0x01 ∷ internal ∷ []) _ 3 4 refl
-    ∙ over-then (0x9F ∷ 0xDC ∷ 0x01 ∷ []) (internal ∷ []) _ 4 7 refl)
-
 -- a command's end by its course
 module _ (c : Card) (x : Course) (a : List ℕ) where
   pub told-went : {at : ℕ} (buffer : List ℕ) → x ≡ Went at → Answers (commandedAs c x a) 0x9000 0 c a buffer buffer

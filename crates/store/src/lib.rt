@@ -31,10 +31,17 @@ fn lay_answer(answer: &mut [u8], c: Card, tag: u16) -> usize
         slices::put_bytes(answer, 0, &traceability);
         return 16;
     }
-    slices::put_bytes(answer, 0, b"\x9F\x70\x01");
-    slices::put_byte(answer, 3, c.life.gp);
-    slices::put_bytes(answer, 4, b"\x9F\xDC\x01");
-    slices::put_byte(answer, 7, c.loading.internal);
+    let states = [
+        0x9F,
+        0x70,
+        0x01,
+        c.life.gp,
+        0x9F,
+        0xDC,
+        0x01,
+        c.loading.internal,
+    ];
+    slices::put_bytes(answer, 0, &states);
     8
 }
 
@@ -63,18 +70,13 @@ pub fn stored(c: Card, area: &mut [u8], answer: &mut [u8], p1: u8, d: &[u8]) -> 
     requires { ⌜ Good areaSize c (now area) × (64 ≤ length (now answer)) ⌝ }
     ensures { λ r. ⌜ Answers (storeData p1 (now (d .entry)) c (now (area .entry))) (r .word) (r .answered) (r .card) (now (area .exit)) (now (answer .entry)) (now (answer .exit)) ⌝ }
 {
-    let life = c.life;
-    if life.selected {
+    if c.life.selected {
         if d.len() == 0 {
             return locking::failed_by(c, 0x6700);
         }
-        let load = c.loading;
-        let chip = c.chip;
-        let s = load::commanded(load, area, chip.capacity, p1, d);
-        let next = s.load;
+        let s = load::commanded(c.loading, area, c.chip.capacity, p1, d);
         let course = s.course;
-        let after = locking::with_loading(c, next);
-        return told_of(answer, after, course);
+        return told_of(answer, locking::with_loading(c, s.load), course);
     }
     Told {
         word: 0x6985,

@@ -3,7 +3,7 @@ use native.Mathlib.Omega.{arith}
 use lib.ListN.{length, length-append}
 use denote.Ref.{now}
 use borrow.Author.Needs.{needs}
-use Rattle.store.proofs.Tellings.{asks-reference, asks-traceability, asks-states, reference-laid, states-laid}
+use Rattle.store.proofs.Tellings.{asks-reference, asks-traceability, asks-states, reference-laid}
 use Rattle.store.proofs.lay_answer.Statement.{statement}
 use Rattle.store.proofs.lay_answer.Tie as tie
 
@@ -68,33 +68,14 @@ slice-aggregate-put-bytes-4 c = search needs
 put-bytes-requires-4 : tie.Need-put-bytes-requires-4
 put-bytes-requires-4 c κs = search needs
 
-put-byte-requires : tie.Need-put-byte-requires
-put-byte-requires c κs = search needs
-
-slice-aggregate-put-bytes-5 : tie.Need-slice-aggregate-put-bytes-5
-slice-aggregate-put-bytes-5 c = search needs
-
-put-bytes-requires-5 : tie.Need-put-bytes-requires-5
-put-bytes-requires-5 c κs = search needs
-
-put-byte-requires-2 : tie.Need-put-byte-requires-2
-put-byte-requires-2 c κs = search needs
-
 same-length-3 : tie.Need-same-length-3
 same-length-3 c = search needs
 
 returns-3 : tie.Need-returns-3
 returns-3 c =
-    let fourth = c .before .before in
-    let third = fourth .before .before .before .before in
-    let second = third .before .before .before .before .before in
-    let first = second .before .before .before .before in
-    let tested = first .before .before .before in
+    let tested = c .before .before .before .before .before in
     let s = tested .before .before .before .before in
-    rw (asks-states (s .args .c) (s .args .tag) (tested .before .if1 .left) (tested .if2 .left)) (
-      refl,
-      states-laid (now (s .args .answer)) _ _ (first .put-bytes4 .ensures) (second .put-byte .ensures) (third .put-bytes5 .ensures) (fourth .put-byte2 .ensures),
-    )
+    rw (asks-states (s .args .c) (s .args .tag) (tested .before .if1 .left) (tested .if2 .left)) (refl, c .before .before .put-bytes4 .ensures)
 
 pub lay-answer-spec : {M : Type 1} → statement M
 lay-answer-spec =
@@ -112,9 +93,5 @@ lay-answer-spec =
     returns-2
     slice-aggregate-put-bytes-4
     put-bytes-requires-4
-    put-byte-requires
-    slice-aggregate-put-bytes-5
-    put-bytes-requires-5
-    put-byte-requires-2
     same-length-3
     returns-3)

@@ -26,19 +26,19 @@ failed-by-requires c κs = search needs
 
 returns : tie.Need-returns
 returns c =
-    let s = c .before .before .before .before .before .before .before .args in
+    let s = c .before .before .before .before .before .before .args in
     rw (store-empty (s .p1) (now (s .d)) (s .c) (now (s .area)) (c .before .before .if1 .taken) (c .before .if2 .taken)) (errs-told 0x6700 (s .c) _ _ (c .failed-by .result) (c .failed-by .ensures))
 
 commanded-requires : tie.Need-commanded-requires
 commanded-requires c κs =
-    good-sure (c .before .before .before .before .before .before .before .before .before .args .c) (now (c .before .before .before .before .before .before .before .before .before .args .area)) (c .before .before .before .before .before .before .before .before .before .pre .0) (c .before .before .before .before .if1 .taken)
+    let s = c .before .before .before .before .before .before in
+    good-sure (s .args .c) (now (s .args .area)) (s .pre .0) (c .before .before .if1 .taken)
 
 with-loading-requires : tie.Need-with-loading-requires
 with-loading-requires c κs = search needs
 
 told-of-requires : tie.Need-told-of-requires
-told-of-requires c κs =
-    c .before .before .before .before .before .before .before .before .before .before .before .before .before .before .before .pre .1
+told-of-requires c κs = c .before .before .before .before .before .before .before .before .before .before .before .pre .1
 
 same-length : tie.Need-same-length
 same-length c = search needs
@@ -48,13 +48,14 @@ same-length-2 c = search needs
 
 returns-2 : tie.Need-returns-2
 returns-2 c =
-    let s = c .before .before .before .before .before .before .before .before .before .before .before .before .before .before .before .before .before .before .args in
-    rw (store-command (s .p1) (now (s .d)) (s .c) (now (s .area)) (c .before .before .before .before .before .before .before .before .before .before .before .before .before .if1 .taken) (c .before .before .before .before .before .before .before .before .before .before .before .before .if2 .left), ← c .before .before .before .before .before .before .before .before .commanded .ensures)
-    (course-told (s .c) (c .before .before .before .before .before .before .before .before .commanded .result) _ _ _ _ _ _ _ (c .before .before .before .before .with-loading .ensures) (c .before .before .told-of .ensures _))
+    let w = c .before .before .before .before .before .before .before in
+    let s = w .before .before .before .before .before .before .before .args in
+    rw (store-command (s .p1) (now (s .d)) (s .c) (now (s .area)) (w .before .before .before .if1 .taken) (w .before .before .if2 .left), ← w .commanded .ensures)
+    (course-told (s .c) (w .commanded .result) _ _ _ _ _ _ _ (c .before .before .before .with-loading .ensures) (c .before .before .told-of .ensures _))
 
 returns-3 : tie.Need-returns-3
 returns-3 c =
-    let s = c .before .before .before .before .before .args in
+    let s = c .before .before .before .before .args in
     rw (store-unselected (s .p1) (now (s .d)) (s .c) (now (s .area)) (c .if1 .left)) (said _ _ _ _)
 
 pub stored-spec : {M : Type 1} → statement M
