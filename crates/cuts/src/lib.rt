@@ -2,7 +2,9 @@
 use model::Head;
 use model::Header;
 ghost use mathlib.Core.Path.{_≡_};
+ghost use mathlib.Core.Bool.{_&&_};
 ghost use Prim.Native.Nat.{_+_, _≤_};
+ghost use lib.Dec.{leb};
 ghost use lib.ListN.{length, drop};
 ghost use Rattle.model.specs.Order.{cutOf, spannable};
 ghost use Rattle.cuts.specs.Steps.{unitStep, groupingStep, stepOf};
@@ -10,6 +12,10 @@ ghost use Rattle.cuts.specs.Cuts.{Fitting, cuttable, unitsFrom, Command}
 
 // A command's most data bytes.
 const DATA_ROOM: usize = 255;
+
+const FIRST_RECORD_TAG: u16 = 0x0100;
+
+const LAST_RECORD_TAG: u16 = 0x1EFF;
 
 // Where a cutter stands: a place of the order, and how many bytes of a spannable value are still to come there.
 pub struct Place {
@@ -24,10 +30,23 @@ pub struct Step {
     pub inside: usize,
 }
 
+// The tag of a record: most groupings of an order have one.
+fn is_record(tag: u16) -> bool
+    ensures { λ r. ⌜ r ≡ (leb 0x0100 tag && leb tag 0x1EFF) ⌝ }
+{
+    if tag < FIRST_RECORD_TAG {
+        return false;
+    }
+    tag <= LAST_RECORD_TAG
+}
+
 // The value of a tag may run into the next command; an unknown tag's may not.
 fn is_spannable(tag: u16) -> bool
     ensures { λ r. ⌜ r ≡ spannable tag ⌝ }
 {
+    if is_record(tag) {
+        return true;
+    }
     let r = rows::row_of(tag);
     if r == 0 {
         return false;

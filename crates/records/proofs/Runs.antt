@@ -24,6 +24,7 @@ use Rattle.model.specs.Rows.{rowTable, rowAt, rowFrom, rowOf, taken, withRow, m
 use Rattle.model.specs.Loads.{State, fileList, withInternal, withLast, changed}
 use Rattle.model.specs.Rules.{Result, went, isQuery, dueRow, tagSpot, roomOf, lengthOk, recordDone, recordBytes, fed, spanned, grouping}
 use Rattle.model.specs.Command.{walk}
+use Rattle.rows.proofs.Records.{record-row}
 use Rattle.steps.specs.Steps.{stateOf}
 use Rattle.records.specs.Steps.{fromB, fromC, fromD, fromE, fromF, Walking}
 use Rattle.records.specs.Fits.{followsOn, Placing, Placed, Fitting, FitAt, Repeats}
@@ -40,23 +41,6 @@ fit-of files last d at start h (Fits tag base from end) i w b f p =
     record { within = i; head = h; whole = w; begins = p .0 ∙ b; placing = p .1; follows = rw (← p .1 .named) f }
 
 -- its tag is of row 11, and no query
-record-row : (tag : ℕ) → 0x0100 ≤ tag → tag ≤ 0x1EFF → rowOf tag ≡ 11
-unfolding rowOf rowFrom rowTable
-record-row tag h g =
-    let p : leb 0x0100 tag ≡ true = le-leb _ _ h in
-    let q : leb tag 0x1EFF ≡ true = le-leb _ _ g in
-    let e1 : leb 0x9484 tag ≡ false = lt-leb 0x9484 tag (omega arith) in
-    let e2 : leb 0x2000 tag ≡ false = lt-leb 0x2000 tag (omega arith) in
-    let e3 : leb 0x2100 tag ≡ false = lt-leb 0x2100 tag (omega arith) in
-    let e4 : leb 0x2200 tag ≡ false = lt-leb 0x2200 tag (omega arith) in
-    let e5 : leb 0x3100 tag ≡ false = lt-leb 0x3100 tag (omega arith) in
-    let e6 : leb 0x3800 tag ≡ false = lt-leb 0x3800 tag (omega arith) in
-    let e7 : leb 0x4101 tag ≡ false = lt-leb 0x4101 tag (omega arith) in
-    let e8 : leb 0x4102 tag ≡ false = lt-leb 0x4102 tag (omega arith) in
-    let e9 : leb 0x4103 tag ≡ false = lt-leb 0x4103 tag (omega arith) in
-    let e10 : leb 0x4104 tag ≡ false = lt-leb 0x4104 tag (omega arith) in
-    rw (e1, e2, e3, e4, e5, e6, e7, e8, e9, e10, p, q)
-
 follows-tests : (last tag : ℕ) → followsOn last tag ≡ true → (0x0100 ≤ tag) × (tag ≤ 0x1EFF) × (last < tag)
 follows-tests last tag e =
     let a = leb 0x0100 tag in

@@ -1,19 +1,40 @@
+use Prim.Native.Nat.{ℕ, suc, _+_, _*_, _-_, _≤_, _<_, _/_, _%_}
+use mathlib.Core.Path.{_≡_, refl, ap, sym, _∙_}
+use mathlib.Core.List.{List, [], _∷_, _++_}
+use native.Mathlib.Omega.{arith}
+use native.Mathlib.Numerals.{add-one}
+use lib.ListN.{length, take, drop, set, getD, length-set, length-take, length-drop, length-append}
+use denote.Ref.{now}
 use borrow.Author.Needs.{needs}
+use Rattle.rows.proofs.Records.{record-spans}
 use Rattle.reader.proofs.Units.{unknown-whole}
 use Rattle.cuts.proofs.is_spannable.Statement.{statement}
 use Rattle.cuts.proofs.is_spannable.Tie as tie
+use Rattle.cuts.proofs.is_spannable.Reads as reads
+use Rattle.cuts.proofs.is_spannable.Lts as lts
+use Rattle.cuts.proofs.is_record.Reads as is-record-reads
+use Rattle.rows.proofs.row_at.Reads as row-at-reads
+use Rattle.rows.proofs.row_of.Reads as row-of-reads
+
+is-record-requires : tie.Need-is-record-requires
+is-record-requires c κs = search needs
+
+returns : tie.Need-returns
+returns c = sym (record-spans _ (sym (c .before .is-record .ensures) ∙ c .if1 .taken))
 
 row-of-requires : tie.Need-row-of-requires
 row-of-requires c κs = search needs
 
-returns : tie.Need-returns
-returns c = unknown-whole _ (c .before .row-of .result) (c .before .row-of .ensures .0) (c .if1 .taken)
+returns-2 : tie.Need-returns-2
+returns-2 c = unknown-whole _ (c .before .row-of .result) (c .before .row-of .ensures .0) (c .if2 .taken)
 
 row-at-requires : tie.Need-row-at-requires
 row-at-requires c κs = search needs
 
-returns-2 : tie.Need-returns-2
-returns-2 c = rw (c .row-at .ensures, c .before .before .row-of .ensures .0)
+returns-3 : tie.Need-returns-3
+returns-3 c = rw (c .row-at .ensures, c .before .before .row-of .ensures .0)
 
 pub is-spannable-spec : {M : Type 1} → statement M
-is-spannable-spec = tie.close (tie.spec row-of-requires returns row-at-requires returns-2)
+is-spannable-spec =
+    tie.close
+    (tie.spec is-record-requires returns row-of-requires returns-2 row-at-requires returns-3)
