@@ -87,15 +87,13 @@ fn at_most(n: usize, most: usize) -> usize
 
 // Every `put` function writes into the buffer from `at` on and gives the place behind. A buffer that has no room left is
 // written out first, so no caller counts characters.
-fn put(out: &mut [u8], at: usize, text: &[u8]) -> usize
-    requires { ⌜ at ≤ length (now out) ⌝ }
-    ensures { λ r. ⌜ r ≤ length (now (out .exit)) ⌝ }
-{
-    if text.len() <= out.len() - at {
-        slices::put_bytes(out, at, text);
-        return at + text.len();
+fn put(out: &mut [u8], at: usize, text: &[u8]) -> usize {
+    let used = at_most(at, out.len());
+    if text.len() <= out.len() - used {
+        slices::put_bytes(out, used, text);
+        return used + text.len();
     }
-    io::write_all(STDOUT_FILENO, &out[..at]);
+    io::write_all(STDOUT_FILENO, &out[..used]);
     if text.len() <= out.len() {
         slices::put_bytes(out, 0, text);
         return text.len();
@@ -104,20 +102,14 @@ fn put(out: &mut [u8], at: usize, text: &[u8]) -> usize
     0
 }
 
-fn put_number(out: &mut [u8], at: usize, n: u64) -> usize
-    requires { ⌜ at ≤ length (now out) ⌝ }
-    ensures { λ r. ⌜ r ≤ length (now (out .exit)) ⌝ }
-{
+fn put_number(out: &mut [u8], at: usize, n: u64) -> usize {
     let mut digits = [0u8; 20];
     let k = digits::put_number(&mut digits, 0, n);
     put(out, at, &digits[..k])
 }
 
 // So many of something: 1 record, 3 records.
-fn put_many(out: &mut [u8], at: usize, n: u64, what: &[u8]) -> usize
-    requires { ⌜ at ≤ length (now out) ⌝ }
-    ensures { λ r. ⌜ r ≤ length (now (out .exit)) ⌝ }
-{
+fn put_many(out: &mut [u8], at: usize, n: u64, what: &[u8]) -> usize {
     let number = put_number(out, at, n);
     let gap = put(out, number, b" ");
     let noun = put(out, gap, what);
@@ -128,10 +120,7 @@ fn put_many(out: &mut [u8], at: usize, n: u64, what: &[u8]) -> usize
 }
 
 // A line's worth of bytes in hexadecimal, or fewer where there are fewer.
-fn put_hex(out: &mut [u8], at: usize, bytes: &[u8]) -> usize
-    requires { ⌜ at ≤ length (now out) ⌝ }
-    ensures { λ r. ⌜ r ≤ length (now (out .exit)) ⌝ }
-{
+fn put_hex(out: &mut [u8], at: usize, bytes: &[u8]) -> usize {
     let mut digits = [0u8; 64];
     let n = at_most(bytes.len(), HEX_LINE);
     hex::put_hex(&mut digits, 0, &bytes[..n]);
@@ -139,36 +128,24 @@ fn put_hex(out: &mut [u8], at: usize, bytes: &[u8]) -> usize
 }
 
 // Bytes as the paper quotes them.
-fn put_quoted(out: &mut [u8], at: usize, bytes: &[u8]) -> usize
-    requires { ⌜ at ≤ length (now out) ⌝ }
-    ensures { λ r. ⌜ r ≤ length (now (out .exit)) ⌝ }
-{
+fn put_quoted(out: &mut [u8], at: usize, bytes: &[u8]) -> usize {
     let first = put(out, at, b"'");
     let last = put_hex(out, first, bytes);
     put(out, last, b"'")
 }
 
-fn put_byte(out: &mut [u8], at: usize, b: u8) -> usize
-    requires { ⌜ at ≤ length (now out) ⌝ }
-    ensures { λ r. ⌜ r ≤ length (now (out .exit)) ⌝ }
-{
+fn put_byte(out: &mut [u8], at: usize, b: u8) -> usize {
     let bytes = [b];
     put_quoted(out, at, &bytes)
 }
 
-fn put_word(out: &mut [u8], at: usize, w: u16) -> usize
-    requires { ⌜ at ≤ length (now out) ⌝ }
-    ensures { λ r. ⌜ r ≤ length (now (out .exit)) ⌝ }
-{
+fn put_word(out: &mut [u8], at: usize, w: u16) -> usize {
     let bytes = [(w / 256) as u8, (w % 256) as u8];
     put_quoted(out, at, &bytes)
 }
 
 // Bytes in hexadecimal, as many lines as they need.
-fn put_dump(out: &mut [u8], at: usize, bytes: &[u8]) -> usize
-    requires { ⌜ at ≤ length (now out) ⌝ }
-    ensures { λ r. ⌜ r ≤ length (now (out .exit)) ⌝ }
-{
+fn put_dump(out: &mut [u8], at: usize, bytes: &[u8]) -> usize {
     let mut to = at;
     let mut i: usize = 0;
     while i < bytes.len() {
@@ -191,10 +168,7 @@ fn character(b: u8) -> u8 {
     b
 }
 
-fn put_characters(out: &mut [u8], at: usize, bytes: &[u8]) -> usize
-    requires { ⌜ at ≤ length (now out) ⌝ }
-    ensures { λ r. ⌜ r ≤ length (now (out .exit)) ⌝ }
-{
+fn put_characters(out: &mut [u8], at: usize, bytes: &[u8]) -> usize {
     let mut to = at;
     let mut i: usize = 0;
     while i < bytes.len() {
@@ -206,10 +180,7 @@ fn put_characters(out: &mut [u8], at: usize, bytes: &[u8]) -> usize
 }
 
 // The name as text, and in hexadecimal.
-fn put_name(out: &mut [u8], at: usize, name: &[u8]) -> usize
-    requires { ⌜ at ≤ length (now out) ⌝ }
-    ensures { λ r. ⌜ r ≤ length (now (out .exit)) ⌝ }
-{
+fn put_name(out: &mut [u8], at: usize, name: &[u8]) -> usize {
     if name.len() == 0 {
         return put(out, at, b"none");
     }
@@ -218,20 +189,14 @@ fn put_name(out: &mut [u8], at: usize, name: &[u8]) -> usize
     put_quoted(out, gap, name)
 }
 
-fn put_name_line(out: &mut [u8], at: usize, name: [u8; 16], n: usize) -> usize
-    requires { ⌜ at ≤ length (now out) ⌝ }
-    ensures { λ r. ⌜ r ≤ length (now (out .exit)) ⌝ }
-{
+fn put_name_line(out: &mut [u8], at: usize, name: [u8; 16], n: usize) -> usize {
     let k = at_most(n, NAME_LIMIT);
     let label = put(out, at, b"Card\n  name            ");
     put_name(out, label, &name[..k])
 }
 
 // The life cycle, GP, in words. Here and below a sound card has no other values than those named: the last needs no test.
-fn put_cycle(out: &mut [u8], at: usize, gp: u8) -> usize
-    requires { ⌜ at ≤ length (now out) ⌝ }
-    ensures { λ r. ⌜ r ≤ length (now (out .exit)) ⌝ }
-{
+fn put_cycle(out: &mut [u8], at: usize, gp: u8) -> usize {
     if gp == INSTALLED {
         return put(out, at, b" installed");
     }
@@ -247,20 +212,14 @@ fn put_cycle(out: &mut [u8], at: usize, gp: u8) -> usize
     put(out, at, b" absent")
 }
 
-fn put_selected(out: &mut [u8], at: usize, selected: bool) -> usize
-    requires { ⌜ at ≤ length (now out) ⌝ }
-    ensures { λ r. ⌜ r ≤ length (now (out .exit)) ⌝ }
-{
+fn put_selected(out: &mut [u8], at: usize, selected: bool) -> usize {
     if selected {
         return put(out, at, b", selected");
     }
     put(out, at, b", not selected")
 }
 
-fn put_life(out: &mut [u8], at: usize, life: Life) -> usize
-    requires { ⌜ at ≤ length (now out) ⌝ }
-    ensures { λ r. ⌜ r ≤ length (now (out .exit)) ⌝ }
-{
+fn put_life(out: &mut [u8], at: usize, life: Life) -> usize {
     let name = life.name;
     let named = put_name_line(out, at, name, life.namelen);
     let label = put(out, named, b"\n  life cycle      ");
@@ -270,10 +229,7 @@ fn put_life(out: &mut [u8], at: usize, life: Life) -> usize
 }
 
 // The internal state in words.
-fn put_state(out: &mut [u8], at: usize, internal: u8) -> usize
-    requires { ⌜ at ≤ length (now out) ⌝ }
-    ensures { λ r. ⌜ r ≤ length (now (out .exit)) ⌝ }
-{
+fn put_state(out: &mut [u8], at: usize, internal: u8) -> usize {
     if internal == PERSONALIZING {
         return put(out, at, b" PERSONALIZING");
     }
@@ -283,39 +239,27 @@ fn put_state(out: &mut [u8], at: usize, internal: u8) -> usize
     put(out, at, b" NOT_PERSONALIZED, before loading")
 }
 
-fn put_internal(out: &mut [u8], at: usize, internal: u8) -> usize
-    requires { ⌜ at ≤ length (now out) ⌝ }
-    ensures { λ r. ⌜ r ≤ length (now (out .exit)) ⌝ }
-{
+fn put_internal(out: &mut [u8], at: usize, internal: u8) -> usize {
     let label = put(out, at, b"\n  internal state  ");
     let code = put_byte(out, label, internal);
     put_state(out, code, internal)
 }
 
 // The number of events by its last five digits: those of the register's last line, behind its END.
-fn put_events(out: &mut [u8], at: usize, count: u64) -> usize
-    requires { ⌜ at ≤ length (now out) ⌝ }
-    ensures { λ r. ⌜ r ≤ length (now (out .exit)) ⌝ }
-{
+fn put_events(out: &mut [u8], at: usize, count: u64) -> usize {
     let mut end = [0u8; 10];
     lines::put_end(&mut end, 0, count);
     let label = put(out, at, b"\n  events          ");
     put(out, label, &end[4..9])
 }
 
-fn put_serial(out: &mut [u8], at: usize, serial: [u8; 8]) -> usize
-    requires { ⌜ at ≤ length (now out) ⌝ }
-    ensures { λ r. ⌜ r ≤ length (now (out .exit)) ⌝ }
-{
+fn put_serial(out: &mut [u8], at: usize, serial: [u8; 8]) -> usize {
     let label = put(out, at, b"\n  serial number   ");
     put_quoted(out, label, &serial)
 }
 
 // What the first byte of the startup information says; it is at least 6 once loaded.
-fn put_modifications(out: &mut [u8], at: usize, n: u8) -> usize
-    requires { ⌜ at ≤ length (now out) ⌝ }
-    ensures { λ r. ⌜ r ≤ length (now (out .exit)) ⌝ }
-{
+fn put_modifications(out: &mut [u8], at: usize, n: u8) -> usize {
     if n == 0 {
         return put(out, at, b", not loaded");
     }
@@ -324,37 +268,25 @@ fn put_modifications(out: &mut [u8], at: usize, n: u8) -> usize
     put(out, most, b" in a session at most")
 }
 
-fn put_startup(out: &mut [u8], at: usize, startup: [u8; 7]) -> usize
-    requires { ⌜ at ≤ length (now out) ⌝ }
-    ensures { λ r. ⌜ r ≤ length (now (out .exit)) ⌝ }
-{
+fn put_startup(out: &mut [u8], at: usize, startup: [u8; 7]) -> usize {
     let label = put(out, at, b"\n  startup         ");
     let code = put_quoted(out, label, &startup);
     put_modifications(out, code, startup[0])
 }
 
-fn put_counter(out: &mut [u8], at: usize, counter: u32) -> usize
-    requires { ⌜ at ≤ length (now out) ⌝ }
-    ensures { λ r. ⌜ r ≤ length (now (out .exit)) ⌝ }
-{
+fn put_counter(out: &mut [u8], at: usize, counter: u32) -> usize {
     let label = put(out, at, b"\n  counter         ");
     put_number(out, label, counter as u64)
 }
 
-fn put_missing(out: &mut [u8], at: usize, tag: u16, missing: usize) -> usize
-    requires { ⌜ at ≤ length (now out) ⌝ }
-    ensures { λ r. ⌜ r ≤ length (now (out .exit)) ⌝ }
-{
+fn put_missing(out: &mut [u8], at: usize, tag: u16, missing: usize) -> usize {
     let code = put_word(out, at, tag);
     let gap = put(out, code, b", ");
     let bytes = put_many(out, gap, missing as u64, b"byte");
     put(out, bytes, b" still missing")
 }
 
-fn put_pending(out: &mut [u8], at: usize, pending: Open) -> usize
-    requires { ⌜ at ≤ length (now out) ⌝ }
-    ensures { λ r. ⌜ r ≤ length (now (out .exit)) ⌝ }
-{
+fn put_pending(out: &mut [u8], at: usize, pending: Open) -> usize {
     match pending {
         Open::Shut => put(out, at, b"none"),
         Open::Table { held: _, missing } => put_missing(out, at, FILE_TABLE_TAG, missing),
@@ -366,19 +298,13 @@ fn put_pending(out: &mut [u8], at: usize, pending: Open) -> usize
     }
 }
 
-fn put_open(out: &mut [u8], at: usize, pending: Open) -> usize
-    requires { ⌜ at ≤ length (now out) ⌝ }
-    ensures { λ r. ⌜ r ≤ length (now (out .exit)) ⌝ }
-{
+fn put_open(out: &mut [u8], at: usize, pending: Open) -> usize {
     let label = put(out, at, b"\n  open value      ");
     put_pending(out, label, pending)
 }
 
 // Serial number, startup, counter, open value.
-fn put_facts(out: &mut [u8], at: usize, l: Loading) -> usize
-    requires { ⌜ at ≤ length (now out) ⌝ }
-    ensures { λ r. ⌜ r ≤ length (now (out .exit)) ⌝ }
-{
+fn put_facts(out: &mut [u8], at: usize, l: Loading) -> usize {
     let serial = l.serial;
     let startup = l.startup;
     let pending = l.pending;
@@ -389,10 +315,7 @@ fn put_facts(out: &mut [u8], at: usize, l: Loading) -> usize
 }
 
 // What rows 1 to 5 are.
-fn put_fact_row(out: &mut [u8], at: usize, r: usize) -> usize
-    requires { ⌜ at ≤ length (now out) ⌝ }
-    ensures { λ x. ⌜ x ≤ length (now (out .exit)) ⌝ }
-{
+fn put_fact_row(out: &mut [u8], at: usize, r: usize) -> usize {
     if r == 1 {
         return put(out, at, b"\n  '9484' challenge");
     }
@@ -409,10 +332,7 @@ fn put_fact_row(out: &mut [u8], at: usize, r: usize) -> usize
 }
 
 // What rows 6 to 10 are: those of the secrets.
-fn put_secret_row(out: &mut [u8], at: usize, r: usize) -> usize
-    requires { ⌜ at ≤ length (now out) ⌝ }
-    ensures { λ x. ⌜ x ≤ length (now (out .exit)) ⌝ }
-{
+fn put_secret_row(out: &mut [u8], at: usize, r: usize) -> usize {
     if r == 6 {
         return put(out, at, b"\n  '3800' activation parameters");
     }
@@ -428,10 +348,7 @@ fn put_secret_row(out: &mut [u8], at: usize, r: usize) -> usize
     put(out, at, b"\n  '4104' PIN")
 }
 
-fn put_row(out: &mut [u8], at: usize, r: usize, last: u16) -> usize
-    requires { ⌜ at ≤ length (now out) ⌝ }
-    ensures { λ x. ⌜ x ≤ length (now (out .exit)) ⌝ }
-{
+fn put_row(out: &mut [u8], at: usize, r: usize, last: u16) -> usize {
     if r < FIRST_SECRET_ROW {
         return put_fact_row(out, at, r);
     }
@@ -444,8 +361,7 @@ fn put_row(out: &mut [u8], at: usize, r: usize, last: u16) -> usize
 
 // A row's line, where it is taken.
 fn put_taken(out: &mut [u8], at: usize, r: usize, rows: u16, last: u16) -> usize
-    requires { ⌜ (at ≤ length (now out)) × (1 ≤ r) × (r ≤ 11) ⌝ }
-    ensures { λ x. ⌜ x ≤ length (now (out .exit)) ⌝ }
+    requires { ⌜ (1 ≤ r) × (r ≤ 11) ⌝ }
 {
     if sets::is_taken(rows, r) {
         return put_row(out, at, r, last);
@@ -453,10 +369,7 @@ fn put_taken(out: &mut [u8], at: usize, r: usize, rows: u16, last: u16) -> usize
     at
 }
 
-fn put_rows(out: &mut [u8], at: usize, rows: u16, last: u16) -> usize
-    requires { ⌜ at ≤ length (now out) ⌝ }
-    ensures { λ x. ⌜ x ≤ length (now (out .exit)) ⌝ }
-{
+fn put_rows(out: &mut [u8], at: usize, rows: u16, last: u16) -> usize {
     let mut to = at;
     let mut r: usize = 0;
     while r < ROW_COUNT {
@@ -468,8 +381,7 @@ fn put_rows(out: &mut [u8], at: usize, rows: u16, last: u16) -> usize
 
 // A secret's length, and no byte of it.
 fn put_length(out: &mut [u8], at: usize, i: usize, n: usize) -> usize
-    requires { ⌜ (at ≤ length (now out)) × (i < 5) ⌝ }
-    ensures { λ x. ⌜ x ≤ length (now (out .exit)) ⌝ }
+    requires { ⌜ i < 5 ⌝ }
 {
     let name = put_secret_row(out, at, FIRST_SECRET_ROW + i);
     let gap = put(out, name, b": ");
@@ -479,10 +391,7 @@ fn put_length(out: &mut [u8], at: usize, i: usize, n: usize) -> usize
     put_many(out, gap, n as u64, b"byte")
 }
 
-fn put_lengths(out: &mut [u8], at: usize, secrets: [Secret; 5]) -> usize
-    requires { ⌜ at ≤ length (now out) ⌝ }
-    ensures { λ x. ⌜ x ≤ length (now (out .exit)) ⌝ }
-{
+fn put_lengths(out: &mut [u8], at: usize, secrets: [Secret; 5]) -> usize {
     let mut to = at;
     let mut i: usize = 0;
     while i < SECRETS {
@@ -494,10 +403,7 @@ fn put_lengths(out: &mut [u8], at: usize, secrets: [Secret; 5]) -> usize
 }
 
 // The rows taken with their count, and the secrets' lengths.
-fn put_loaded(out: &mut [u8], at: usize, l: Loading, taken: u32) -> usize
-    requires { ⌜ at ≤ length (now out) ⌝ }
-    ensures { λ x. ⌜ x ≤ length (now (out .exit)) ⌝ }
-{
+fn put_loaded(out: &mut [u8], at: usize, l: Loading, taken: u32) -> usize {
     let secrets = l.secrets;
     let label = put(out, at, b"\n\nRows taken: ");
     let number = put_number(out, label, taken as u64);
@@ -506,10 +412,7 @@ fn put_loaded(out: &mut [u8], at: usize, l: Loading, taken: u32) -> usize
     put_lengths(out, title, secrets)
 }
 
-fn put_key(out: &mut [u8], at: usize, key: u8) -> usize
-    requires { ⌜ at ≤ length (now out) ⌝ }
-    ensures { λ x. ⌜ x ≤ length (now (out .exit)) ⌝ }
-{
+fn put_key(out: &mut [u8], at: usize, key: u8) -> usize {
     if key == ISSUER_KEY {
         return put(out, at, b"key 1 (Issuer key)");
     }
@@ -520,10 +423,7 @@ fn put_key(out: &mut [u8], at: usize, key: u8) -> usize
 }
 
 // An access condition, with its key where it has one.
-fn put_access(out: &mut [u8], at: usize, ac: u8, key: u8) -> usize
-    requires { ⌜ at ≤ length (now out) ⌝ }
-    ensures { λ x. ⌜ x ≤ length (now (out .exit)) ⌝ }
-{
+fn put_access(out: &mut [u8], at: usize, ac: u8, key: u8) -> usize {
     if ac == SESSION {
         let to = put(out, at, b"SESSION with ");
         return put_key(out, to, key);
@@ -538,20 +438,14 @@ fn put_access(out: &mut [u8], at: usize, ac: u8, key: u8) -> usize
 }
 
 // What parts an access condition from the one before.
-fn put_gap(out: &mut [u8], at: usize, i: usize) -> usize
-    requires { ⌜ at ≤ length (now out) ⌝ }
-    ensures { λ x. ⌜ x ≤ length (now (out .exit)) ⌝ }
-{
+fn put_gap(out: &mut [u8], at: usize, i: usize) -> usize {
     if i == 0 {
         return at;
     }
     put(out, at, b"; ")
 }
 
-fn put_accesses(out: &mut [u8], at: usize, ac: [u8; 4], nkey: [u8; 4]) -> usize
-    requires { ⌜ at ≤ length (now out) ⌝ }
-    ensures { λ x. ⌜ x ≤ length (now (out .exit)) ⌝ }
-{
+fn put_accesses(out: &mut [u8], at: usize, ac: [u8; 4], nkey: [u8; 4]) -> usize {
     let mut to = at;
     let mut i: usize = 0;
     while i < ACCESSES {
@@ -563,10 +457,7 @@ fn put_accesses(out: &mut [u8], at: usize, ac: [u8; 4], nkey: [u8; 4]) -> usize
 }
 
 // An EF's type in words.
-fn put_type(out: &mut [u8], at: usize, eftype: u8) -> usize
-    requires { ⌜ at ≤ length (now out) ⌝ }
-    ensures { λ x. ⌜ x ≤ length (now (out .exit)) ⌝ }
-{
+fn put_type(out: &mut [u8], at: usize, eftype: u8) -> usize {
     if eftype == BINARY {
         return put(out, at, b", binary file, ");
     }
@@ -583,10 +474,7 @@ fn put_type(out: &mut [u8], at: usize, eftype: u8) -> usize
 }
 
 // A binary file's size, or the number and size of the records.
-fn put_sizes(out: &mut [u8], at: usize, d: Descriptor) -> usize
-    requires { ⌜ at ≤ length (now out) ⌝ }
-    ensures { λ x. ⌜ x ≤ length (now (out .exit)) ⌝ }
-{
+fn put_sizes(out: &mut [u8], at: usize, d: Descriptor) -> usize {
     if d.eftype == BINARY {
         return put_many(out, at, sizes::size_of(d) as u64, b"byte");
     }
@@ -595,10 +483,7 @@ fn put_sizes(out: &mut [u8], at: usize, d: Descriptor) -> usize
     put_many(out, of, d.recsize as u64, b"byte")
 }
 
-fn put_sfi(out: &mut [u8], at: usize, sfi: u8) -> usize
-    requires { ⌜ at ≤ length (now out) ⌝ }
-    ensures { λ x. ⌜ x ≤ length (now (out .exit)) ⌝ }
-{
+fn put_sfi(out: &mut [u8], at: usize, sfi: u8) -> usize {
     if sfi == 0 {
         return put(out, at, b", EF, no SFI");
     }
@@ -606,10 +491,7 @@ fn put_sfi(out: &mut [u8], at: usize, sfi: u8) -> usize
     put_byte(out, label, sfi)
 }
 
-fn put_df(out: &mut [u8], at: usize, status: u8) -> usize
-    requires { ⌜ at ≤ length (now out) ⌝ }
-    ensures { λ x. ⌜ x ≤ length (now (out .exit)) ⌝ }
-{
+fn put_df(out: &mut [u8], at: usize, status: u8) -> usize {
     if status == 0 {
         return put(out, at, b", DF, validated");
     }
@@ -617,10 +499,7 @@ fn put_df(out: &mut [u8], at: usize, status: u8) -> usize
 }
 
 // What a descriptor says but its LID and access conditions.
-fn put_kind(out: &mut [u8], at: usize, d: Descriptor) -> usize
-    requires { ⌜ at ≤ length (now out) ⌝ }
-    ensures { λ x. ⌜ x ≤ length (now (out .exit)) ⌝ }
-{
+fn put_kind(out: &mut [u8], at: usize, d: Descriptor) -> usize {
     if d.filetype == DF {
         return put_df(out, at, d.status);
     }
@@ -629,10 +508,7 @@ fn put_kind(out: &mut [u8], at: usize, d: Descriptor) -> usize
     put_sizes(out, kind, d)
 }
 
-fn put_descriptor(out: &mut [u8], at: usize, d: Descriptor) -> usize
-    requires { ⌜ at ≤ length (now out) ⌝ }
-    ensures { λ x. ⌜ x ≤ length (now (out .exit)) ⌝ }
-{
+fn put_descriptor(out: &mut [u8], at: usize, d: Descriptor) -> usize {
     let ac = d.ac;
     let nkey = d.nkey;
     let label = put(out, at, b"\n  LID ");
@@ -644,10 +520,7 @@ fn put_descriptor(out: &mut [u8], at: usize, d: Descriptor) -> usize
 }
 
 // DataRef: which counter a simulated counter file is.
-fn put_data_ref(out: &mut [u8], at: usize, sfi: u8, number: u8) -> usize
-    requires { ⌜ at ≤ length (now out) ⌝ }
-    ensures { λ x. ⌜ x ≤ length (now (out .exit)) ⌝ }
-{
+fn put_data_ref(out: &mut [u8], at: usize, sfi: u8, number: u8) -> usize {
     let label = put(out, at, b"    stores nothing: it is counter ");
     let counter = put_number(out, label, number as u64);
     let of = put(out, counter, b" of the counters file with SFI ");
@@ -665,10 +538,7 @@ fn place_of(l: Loading, sfi: u8, nn: u8) -> usize {
     }
 }
 
-fn put_place(out: &mut [u8], at: usize, place: usize, size: usize) -> usize
-    requires { ⌜ at ≤ length (now out) ⌝ }
-    ensures { λ x. ⌜ x ≤ length (now (out .exit)) ⌝ }
-{
+fn put_place(out: &mut [u8], at: usize, place: usize, size: usize) -> usize {
     let label = put(out, at, b": offset ");
     let offset = put_number(out, label, place as u64);
     let gap = put(out, offset, b", ");
@@ -677,10 +547,7 @@ fn put_place(out: &mut [u8], at: usize, place: usize, size: usize) -> usize
 }
 
 // A record: its place, and the bytes that `shown` gives.
-fn put_record(out: &mut [u8], at: usize, c: Card, area: &[u8], sfi: u8, nn: u8) -> usize
-    requires { ⌜ at ≤ length (now out) ⌝ }
-    ensures { λ x. ⌜ x ≤ length (now (out .exit)) ⌝ }
-{
+fn put_record(out: &mut [u8], at: usize, c: Card, area: &[u8], sfi: u8, nn: u8) -> usize {
     let label = put(out, at, b"    record ");
     let name = put_number(out, label, nn as u64);
     let mut number: u8 = 0;
@@ -694,10 +561,7 @@ fn put_record(out: &mut [u8], at: usize, c: Card, area: &[u8], sfi: u8, nn: u8) 
 }
 
 // Records 1 to the last.
-fn put_records(out: &mut [u8], at: usize, c: Card, area: &[u8], sfi: u8, last: u8) -> usize
-    requires { ⌜ at ≤ length (now out) ⌝ }
-    ensures { λ x. ⌜ x ≤ length (now (out .exit)) ⌝ }
-{
+fn put_records(out: &mut [u8], at: usize, c: Card, area: &[u8], sfi: u8, last: u8) -> usize {
     let mut to = at;
     let mut nn: u8 = 0;
     while nn < last {
@@ -708,10 +572,7 @@ fn put_records(out: &mut [u8], at: usize, c: Card, area: &[u8], sfi: u8, last: u
 }
 
 // What is stored of a file.
-fn put_contents(out: &mut [u8], at: usize, c: Card, area: &[u8], d: Descriptor) -> usize
-    requires { ⌜ at ≤ length (now out) ⌝ }
-    ensures { λ x. ⌜ x ≤ length (now (out .exit)) ⌝ }
-{
+fn put_contents(out: &mut [u8], at: usize, c: Card, area: &[u8], d: Descriptor) -> usize {
     if d.filetype == DF {
         return at;
     }
@@ -731,17 +592,13 @@ fn put_contents(out: &mut [u8], at: usize, c: Card, area: &[u8], d: Descriptor) 
     put_records(out, at, c, area, d.sfi, d.numrec)
 }
 
-fn put_file(out: &mut [u8], at: usize, c: Card, area: &[u8], d: Descriptor) -> usize
-    requires { ⌜ at ≤ length (now out) ⌝ }
-    ensures { λ x. ⌜ x ≤ length (now (out .exit)) ⌝ }
-{
+fn put_file(out: &mut [u8], at: usize, c: Card, area: &[u8], d: Descriptor) -> usize {
     let head = put_descriptor(out, at, d);
     put_contents(out, head, c, area, d)
 }
 
 fn put_files(out: &mut [u8], at: usize, c: Card, area: &[u8], count: usize) -> usize
-    requires { ⌜ (at ≤ length (now out)) × (count ≤ 31) ⌝ }
-    ensures { λ x. ⌜ x ≤ length (now (out .exit)) ⌝ }
+    requires { ⌜ count ≤ 31 ⌝ }
 {
     let l = c.loading;
     let files = l.files;
@@ -755,10 +612,7 @@ fn put_files(out: &mut [u8], at: usize, c: Card, area: &[u8], count: usize) -> u
     to
 }
 
-fn put_table(out: &mut [u8], at: usize, c: Card, area: &[u8]) -> usize
-    requires { ⌜ at ≤ length (now out) ⌝ }
-    ensures { λ x. ⌜ x ≤ length (now (out .exit)) ⌝ }
-{
+fn put_table(out: &mut [u8], at: usize, c: Card, area: &[u8]) -> usize {
     let n = at_most(c.loading.count, TABLE_LIMIT);
     if n == 0 {
         return put(out, at, b"\n\nFile table: none\n");
@@ -770,9 +624,7 @@ fn put_table(out: &mut [u8], at: usize, c: Card, area: &[u8]) -> usize
 }
 
 // All but the files.
-fn put_front(out: &mut [u8], c: Card, count: u64) -> usize
-    ensures { λ x. ⌜ x ≤ length (now (out .exit)) ⌝ }
-{
+fn put_front(out: &mut [u8], c: Card, count: u64) -> usize {
     let life = c.life;
     let l = c.loading;
     let first = put_life(out, 0, life);
@@ -786,7 +638,8 @@ fn put_front(out: &mut [u8], c: Card, count: u64) -> usize
 fn put_card(out: &mut [u8], c: Card, area: &[u8], count: u64) {
     let front = put_front(out, c, count);
     let end = put_table(out, front, c, area);
-    io::write_all(STDOUT_FILENO, &out[..end]);
+    let used = at_most(end, out.len());
+    io::write_all(STDOUT_FILENO, &out[..used]);
 }
 
 // The card after a block, the events so far by their last five digits, and whether the input goes on.

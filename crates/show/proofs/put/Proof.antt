@@ -1,8 +1,21 @@
+use Prim.Native.Nat.{ℕ, suc, _+_, _*_, _-_, _≤_, _<_, _/_, _%_}
+use mathlib.Core.Path.{_≡_, refl, ap, sym, _∙_}
+use mathlib.Core.List.{List, [], _∷_, _++_}
 use native.Mathlib.Omega.{arith}
-use lib.ListN.{length-take}
+use native.Mathlib.Numerals.{add-one}
+use lib.ListN.{length, take, drop, set, getD, length-set, length-take, length-drop, length-append}
+use denote.Ref.{now}
 use borrow.Author.Needs.{needs}
 use Rattle.show.proofs.put.Statement.{statement}
 use Rattle.show.proofs.put.Tie as tie
+use Rattle.show.proofs.put.Reads as reads
+use Rattle.show.proofs.put.Lts as lts
+use Rattle.io.proofs.write_all.Reads as write-all-reads
+use Rattle.show.proofs.at_most.Reads as at-most-reads
+use Rattle.slices.proofs.put_bytes.Reads as put-bytes-reads
+
+at-most-requires : tie.Need-at-most-requires
+at-most-requires c κs = search needs
 
 sub-if1 : tie.Need-sub-if1
 sub-if1 c = search needs
@@ -50,6 +63,7 @@ pub put-spec : {M : Type 1} → statement M
 put-spec =
     tie.close
     (tie.spec
+    at-most-requires
     sub-if1
     put-bytes-requires
     add-result

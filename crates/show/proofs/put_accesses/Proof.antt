@@ -6,7 +6,7 @@ use Rattle.show.proofs.put_accesses.Statement.{statement}
 use Rattle.show.proofs.put_accesses.Tie as tie
 
 abbrev Inv-loop : tie.InvT-loop
-Inv-loop out₀ at ac nkey to₀ i₀ out to i = (i ≤ 4) × (to ≤ length out) × (length out ≡ length out₀)
+Inv-loop out₀ at ac nkey to₀ i₀ out to i = (i ≤ 4) × length out ≡ length out₀
 
 abbrev μ-loop : tie.MeasureT-loop
 μ-loop out₀ at ac nkey to₀ i₀ out to i = 4 - i

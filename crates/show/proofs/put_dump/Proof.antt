@@ -6,7 +6,7 @@ use Rattle.show.proofs.put_dump.Statement.{statement}
 use Rattle.show.proofs.put_dump.Tie as tie
 
 abbrev Inv-loop : tie.InvT-loop
-Inv-loop out₀ at bytes to₀ i₀ t6 t7 out to i = (to ≤ length out) × (length out ≡ length out₀)
+Inv-loop out₀ at bytes to₀ i₀ t6 t7 out to i = length out ≡ length out₀
 
 abbrev μ-loop : tie.MeasureT-loop
 μ-loop out₀ at bytes to₀ i₀ t6 t7 out to i = length bytes - i

@@ -6,7 +6,7 @@ use Rattle.show.proofs.put_files.Statement.{statement}
 use Rattle.show.proofs.put_files.Tie as tie
 
 abbrev Inv-loop : tie.InvT-loop
-Inv-loop out₀ at c area count files to₀ i₀ out to i = (i ≤ count) × (to ≤ length out) × (length out ≡ length out₀)
+Inv-loop out₀ at c area count files to₀ i₀ out to i = (i ≤ count) × length out ≡ length out₀
 
 abbrev μ-loop : tie.MeasureT-loop
 μ-loop out₀ at c area count files to₀ i₀ out to i = count - i

@@ -6,7 +6,7 @@ use Rattle.show.proofs.put_lengths.Statement.{statement}
 use Rattle.show.proofs.put_lengths.Tie as tie
 
 abbrev Inv-loop : tie.InvT-loop
-Inv-loop out₀ at secrets to₀ i₀ out to i = (i ≤ 5) × (to ≤ length out) × (length out ≡ length out₀)
+Inv-loop out₀ at secrets to₀ i₀ out to i = (i ≤ 5) × length out ≡ length out₀
 
 abbrev μ-loop : tie.MeasureT-loop
 μ-loop out₀ at secrets to₀ i₀ out to i = 5 - i

@@ -6,7 +6,7 @@ use Rattle.show.proofs.put_records.Statement.{statement}
 use Rattle.show.proofs.put_records.Tie as tie
 
 abbrev Inv-loop : tie.InvT-loop
-Inv-loop out₀ at c area sfi last to₀ nn₀ out to nn = (to ≤ length out) × (length out ≡ length out₀)
+Inv-loop out₀ at c area sfi last to₀ nn₀ out to nn = length out ≡ length out₀
 
 abbrev μ-loop : tie.MeasureT-loop
 μ-loop out₀ at c area sfi last to₀ nn₀ out to nn = last - nn

@@ -6,7 +6,7 @@ use Rattle.show.proofs.put_rows.Statement.{statement}
 use Rattle.show.proofs.put_rows.Tie as tie
 
 abbrev Inv-loop : tie.InvT-loop
-Inv-loop out₀ at rows last to₀ r₀ out to r = (r ≤ 11) × (to ≤ length out) × (length out ≡ length out₀)
+Inv-loop out₀ at rows last to₀ r₀ out to r = (r ≤ 11) × length out ≡ length out₀
 
 abbrev μ-loop : tie.MeasureT-loop
 μ-loop out₀ at rows last to₀ r₀ out to r = 11 - r
