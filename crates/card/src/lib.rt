@@ -17,16 +17,16 @@ pub fn play(c: Card, area: &mut [u8], answer: &mut [u8], r: &[u8]) -> Played
     ensures { λ x. ⌜ Plays (playOf c (now (area .entry)) (length (now (answer .entry))) (now (r .entry))) x (now (area .exit)) (now (answer .entry)) (now (answer .exit)) ⌝ }
 {
     if area.len() != AREA_SIZE {
-        return turns::refused_by(1, c);
+        return kinds::refused_by(1, c);
     }
     if answer.len() < ANSWER_ROOM {
-        return turns::refused_by(2, c);
+        return kinds::refused_by(2, c);
     }
     if sound::is_sound(c) {
         if r.len() != RECORD_SIZE {
-            return turns::refused_by(3, c);
+            return kinds::refused_by(3, c);
         }
         return turns::turn(c, area, answer, r);
     }
-    turns::refused_by(6, c)
+    kinds::refused_by(6, c)
 }

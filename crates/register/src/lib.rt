@@ -24,36 +24,6 @@ pub struct Entered {
     pub count: u64,
 }
 
-// One record is played, and its line stands at `at`.
-fn enter_one(
-    c: Card,
-    area: &mut [u8],
-    answer: &mut [u8],
-    r: &[u8],
-    n: u64,
-    out: &mut [u8],
-    at: usize,
-) -> Card
-    requires { ⌜ Good areaSize c (now area) × (64 ≤ length (now answer)) × (length (now r) ≡ 260) × (at + 26 ≤ length (now out)) ⌝ }
-    ensures { λ x. ⌜ (x ≡ turnOf c (now (area .entry)) (now (r .entry)) .card) × (now (area .exit) ≡ turnOf c (now (area .entry)) (now (r .entry)) .area) × (now (out .exit) ≡ overwrite (now (out .entry)) at (lineOf n (byteAt (now (r .entry)) 0) (turnOf c (now (area .entry)) (now (r .entry)) .number) (turnOf c (now (area .entry)) (now (r .entry)) .word) (turnOf c (now (area .entry)) (now (r .entry)) .card))) ⌝ }
-{
-    let kind = r[0];
-    let p = turns::turn(c, area, answer, r);
-    let next = p.card;
-    lines::put_line(
-        out,
-        at,
-        n,
-        kind,
-        p.number,
-        p.word,
-        next.life.gp,
-        next.loading.internal,
-        next.loading.rows,
-    );
-    next
-}
-
 // Whole records end to end: each is played, and its line written behind the others.
 pub fn enter_all(c: Card, area: &mut [u8], records: &[u8], count: u64, out: &mut [u8]) -> Entered
     requires { ⌜ Good areaSize c (now area) × (count < 100000) × (length (now records) / 260 * 26 ≤ length (now out)) ⌝ }
@@ -66,17 +36,32 @@ pub fn enter_all(c: Card, area: &mut [u8], records: &[u8], count: u64, out: &mut
     let k = records.len() / RECORD_SIZE;
     while i < k {
         let from = i * RECORD_SIZE;
+        let r = &records[from..from + RECORD_SIZE];
+        let mut number: u8 = 0;
+        let mut word: u16 = 0x0000;
+        if kinds::is_brief(card, r) {
+            let x = turns::lived(card, area, &mut answer, r);
+            word = x.word;
+            let life = x.life;
+            card.life = life;
+        } else {
+            let x = turns::loaded(card, area, &mut answer, r);
+            number = x.number;
+            word = x.word;
+            card = x.card;
+        }
         n = (n + 1) % NUMBERS;
-        let next = enter_one(
-            card,
-            area,
-            &mut answer,
-            &records[from..from + RECORD_SIZE],
-            n,
+        lines::put_line(
             out,
             i * LINE_SIZE,
+            n,
+            r[0],
+            number,
+            word,
+            card.life.gp,
+            card.loading.internal,
+            card.loading.rows,
         );
-        card = next;
         i += 1;
     }
     Entered {

@@ -16,8 +16,6 @@ ghost use Rattle.lists.specs.Bytes.{zeros};
 ghost use Rattle.model.specs.Stored.{areaSize};
 ghost use Rattle.soundness.specs.Keeps.{Good};
 
-const RECORD_SIZE: usize = 260;
-
 // 24 records, and their lines: none is longer than 2,200 characters.
 const BLOCK_SIZE: usize = 6240;
 
@@ -359,14 +357,14 @@ fn trace_all(c: Card, area: &mut [u8], records: &[u8], out: &mut [u8]) -> Traced
     let mut card = c;
     let mut end: usize = 0;
     let mut i: usize = 0;
-    let k = records.len() / RECORD_SIZE;
+    let k = records.len() / register::RECORD_SIZE;
     while i < k {
-        let from = i * RECORD_SIZE;
+        let from = i * register::RECORD_SIZE;
         let t = trace_one(
             card,
             area,
             &mut answer,
-            &records[from..from + RECORD_SIZE],
+            &records[from..from + register::RECORD_SIZE],
             out,
             end,
         );
@@ -393,8 +391,8 @@ fn trace_block(c: Card, area: &mut [u8], block: &mut [u8], lines: &mut [u8]) -> 
     ensures { λ r. ⌜ Good areaSize (r .card) (now (area .exit)) ⌝ }
 {
     let got = io::read_full(STDIN_FILENO, block);
-    let k = got / RECORD_SIZE;
-    let t = trace_all(c, area, &block[..k * RECORD_SIZE], lines);
+    let k = got / register::RECORD_SIZE;
+    let t = trace_all(c, area, &block[..k * register::RECORD_SIZE], lines);
     let card = t.card;
     io::write_all(STDOUT_FILENO, &lines[..t.end]);
     Block {

@@ -4,8 +4,11 @@ use mathlib.Core.Path.{_≡_}
 use mathlib.Core.List.{List}
 use lib.ListN.{length}
 use Rattle.lists.specs.Over.{overwrite}
+use Rattle.model.specs.declared.Card.{Card}
 use Rattle.model.specs.declared.Played.{Played}
+use Rattle.model.specs.Events.{withLife}
 use Rattle.model.specs.Session.{Turn}
+use Rattle.select.specs.declared.Replied.{Replied}
 
 -- number, word, number of answer bytes, card, file area and every byte of the answer buffer are those of a turn
 pub record Plays (t : Turn) (r : Played) (area before after : List ℕ) : Type 0 where
@@ -15,3 +18,7 @@ pub record Plays (t : Turn) (r : Played) (area before after : List ℕ) : Type 0
   pub leaves : r .card ≡ t .card
   pub keeps : area ≡ t .area
   pub writes : after ≡ overwrite before 0 (t .answer)
+
+-- what is told of an event that changes the life at most, on the card that it came to
+abbrev pub livedAs : Card → Replied → Played
+livedAs c x = record { number = 0; word = x .word; answered = x .answered; card = withLife (x .life) c }

@@ -13,7 +13,7 @@ use Rattle.card.proofs.play.Statement.{statement}
 use Rattle.card.proofs.play.Tie as tie
 use Rattle.card.proofs.play.Reads as reads
 use Rattle.card.proofs.play.Lts as lts
-use Rattle.turns.proofs.refused_by.Reads as refused-by-reads
+use Rattle.kinds.proofs.refused_by.Reads as refused-by-reads
 use Rattle.turns.proofs.turn.Reads as turn-reads
 use Rattle.sound.proofs.is_sound.Reads as is-sound-reads
 

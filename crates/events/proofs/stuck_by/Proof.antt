@@ -19,14 +19,14 @@ unfolding stuck isName
 returns c =
     let laid = c .before .before in
     let two = laid .before .before in
-    let one = two .before .before .before in
+    let one = two .before .before in
     λ p a. simp (eq-eqb _ 3 (one .if1 .taken), ← two .before .is-named .ensures, two .if2 .taken)
     (gave _ _ _ a (laid .lay-name-fci .ensures .0) (laid .lay-name-fci .ensures .1))
 
 returns-2 : tie.Need-returns-2
 unfolding stuck isName
 returns-2 c =
-    let one = c .before .before .before in
+    let one = c .before .before in
     λ p a. simp (eq-eqb _ 3 (one .if1 .taken), ← c .before .is-named .ensures, c .if2 .left) (said _ _ a _)
 
 returns-3 : tie.Need-returns-3

@@ -6,54 +6,23 @@ use native.Mathlib.Numerals.{add-one}
 use lib.ListN.{length, take, drop, set, getD, length-set, length-take, length-drop, length-append}
 use denote.Ref.{now}
 use borrow.Author.Needs.{needs}
-use mathlib.Core.Path.{subst}
-use Rattle.turns.proofs.Replies.{plays, refused}
-use Rattle.turns.specs.Plays.{Plays}
-use Rattle.model.specs.Stored.{paddedZero, eventIn}
-use Rattle.model.specs.Session.{turnOf}
 use Rattle.turns.proofs.turn.Statement.{statement}
 use Rattle.turns.proofs.turn.Tie as tie
 use Rattle.turns.proofs.turn.Reads as reads
 use Rattle.turns.proofs.turn.Lts as lts
-use Rattle.events.proofs.event_on.Reads as event-on-reads
-use Rattle.turns.proofs.is_kind.Reads as is-kind-reads
-use Rattle.turns.proofs.refused_by.Reads as refused-by-reads
-use Rattle.bytes.proofs.wide.Reads as wide-reads
-use Rattle.bytes.proofs.zero_from.Reads as zero-from-reads
+use Rattle.locking.proofs.with_life.Reads as with-life-reads
+use Rattle.kinds.proofs.is_brief.Reads as is-brief-reads
+use Rattle.turns.proofs.lived.Reads as lived-reads
+use Rattle.turns.proofs.loaded.Reads as loaded-reads
 
-shared-slice-read-kind : tie.Need-shared-slice-read-kind
-shared-slice-read-kind c = search needs
+is-brief-requires : tie.Need-is-brief-requires
+is-brief-requires c κs = search needs
 
-is-kind-requires : tie.Need-is-kind-requires
-is-kind-requires c κs = search needs
+lived-requires : tie.Need-lived-requires
+lived-requires c κs = let p = c .before .before .before .before .before .before .before .pre in (p .0, p .1, p .2, sym (c .before .before .before .is-brief .ensures) ∙ c .before .before .if1 .taken)
 
-shared-slice-read-wide : tie.Need-shared-slice-read-wide
-shared-slice-read-wide c = search needs
-
-wide-requires : tie.Need-wide-requires
-wide-requires c κs = search needs
-
-add-end : tie.Need-add-end
-add-end c = search needs
-
-zero-from-requires : tie.Need-zero-from-requires
-zero-from-requires c κs = search needs
-
-shared-slice-read-event-on : tie.Need-shared-slice-read-event-on
-shared-slice-read-event-on c = search needs
-
-sub-event-on : tie.Need-sub-event-on
-sub-event-on c = search needs
-
-part-event-on-start : tie.Need-part-event-on-start
-part-event-on-start c = search needs
-
-part-event-on-end : tie.Need-part-event-on-end
-part-event-on-end c = search needs
-
-event-on-requires : tie.Need-event-on-requires
-event-on-requires c κs =
-    (c .before .before .before .before .before .before .before .before .before .before .before .before .before .before .pre .0, c .before .before .before .before .before .before .before .before .before .before .before .before .before .before .pre .1)
+with-life-requires : tie.Need-with-life-requires
+with-life-requires c κs = search needs
 
 same-length : tie.Need-same-length
 same-length c = search needs
@@ -62,47 +31,31 @@ same-length-2 : tie.Need-same-length-2
 same-length-2 c = search needs
 
 returns : tie.Need-returns
-unfolding turnOf paddedZero
-returns c =
-    let w = c .before .before .before .before .before .before .before .before .before .before .before .before .wide .result in
-    let k : 4 + w - 4 ≡ w = omega arith in
-    rw (← c .before .before .before .before .before .before .before .before .before .before .before .before .before .before .before .is-kind .ensures, c .before .before .before .before .before .before .before .before .before .before .before .before .before .before .if1 .taken, ← c .before .before .before .before .before .before .before .before .before .before .before .before .wide .ensures .0, ← c .before .before .before .before .before .before .before .before .before .before .before .zero-from .ensures, c .before .before .before .before .before .before .before .before .before .before .if2 .taken) (plays (rw k at (c .before .before .before .before .before .event-on .ensures)))
+returns c = rw (c .with-life .ensures) (c .before .before .before .before .before .lived .ensures)
 
-refused-by-requires : tie.Need-refused-by-requires
-refused-by-requires c κs = search needs
+loaded-requires : tie.Need-loaded-requires
+loaded-requires c κs = let p = c .before .before .before .before .before .before .before .pre in (p .0, p .1, p .2, sym (c .before .before .before .is-brief .ensures) ∙ c .before .before .if1 .left)
+
+same-length-3 : tie.Need-same-length-3
+same-length-3 c = search needs
+
+same-length-4 : tie.Need-same-length-4
+same-length-4 c = search needs
 
 returns-2 : tie.Need-returns-2
-unfolding turnOf paddedZero
-returns-2 c =
-    rw (c .refused-by .ensures, ← c .before .before .before .before .before .before .is-kind .ensures, c .before .before .before .before .before .if1 .taken, ← c .before .before .before .wide .ensures .0, ← c .before .before .zero-from .ensures, c .before .if2 .left) (refused 5 _ _ _)
-
-refused-by-requires-2 : tie.Need-refused-by-requires-2
-refused-by-requires-2 c κs = search needs
-
-returns-3 : tie.Need-returns-3
-unfolding turnOf
-returns-3 c =
-    rw (c .refused-by2 .ensures, ← c .before .before .is-kind .ensures, c .before .if1 .left) (refused 4 _ _ _)
+returns-2 c = search needs
 
 pub turn-spec : {M : Type 1} → statement M
 turn-spec =
     tie.close
     (tie.spec
-    shared-slice-read-kind
-    is-kind-requires
-    shared-slice-read-wide
-    wide-requires
-    add-end
-    zero-from-requires
-    shared-slice-read-event-on
-    sub-event-on
-    part-event-on-start
-    part-event-on-end
-    event-on-requires
+    is-brief-requires
+    lived-requires
+    with-life-requires
     same-length
     same-length-2
     returns
-    refused-by-requires
-    returns-2
-    refused-by-requires-2
-    returns-3)
+    loaded-requires
+    same-length-3
+    same-length-4
+    returns-2)

@@ -1,6 +1,6 @@
 use Rattle.lists.specs.Choice.{cases}
-use Rattle.turns.proofs.is_kind.Statement.{statement}
-use Rattle.turns.proofs.is_kind.Tie as tie
+use Rattle.kinds.proofs.is_kind.Statement.{statement}
+use Rattle.kinds.proofs.is_kind.Tie as tie
 
 returns : tie.Need-returns
 returns c = search cases

@@ -1,0 +1,59 @@
+// Which records are events, and which of those change the life at most; the answer to a record that is refused.
+use model::Card;
+use model::Played;
+ghost use mathlib.Core.Path.{_≡_};
+ghost use Prim.Native.Nat.{_+_, _≤_, _<_};
+ghost use lib.ListN.{length};
+ghost use Rattle.model.specs.Stored.{isKind};
+ghost use Rattle.kinds.specs.Brief.{isBrief, briefTurn};
+
+const DATA_PLACE: usize = 4;
+
+pub fn refused_by(number: u8, c: Card) -> Played
+    ensures { λ r. ⌜ r ≡ record { number = number; word = 0; answered = 0; card = c } ⌝ }
+{
+    Played {
+        number: number,
+        word: 0x0000,
+        answered: 0,
+        card: c,
+    }
+}
+
+pub fn is_kind(k: u8) -> bool
+    ensures { λ r. ⌜ r ≡ isKind k ⌝ }
+{
+    if k < 1 {
+        return false;
+    }
+    k <= 8
+}
+
+// Whether an event of this kind changes the life at most.
+fn is_brief_kind(c: Card, kind: u8) -> bool
+    ensures { λ r. ⌜ r ≡ isBrief kind c ⌝ }
+{
+    if c.loading.internal == 0x5A {
+        return false;
+    }
+    if kind == 2 {
+        if c.life.selected {
+            return false;
+        }
+    }
+    true
+}
+
+// Whether a record is an event that changes the life at most: whoever plays many need not hand the whole card on.
+pub fn is_brief(c: Card, r: &[u8]) -> bool
+    requires { ⌜ length (now r) ≡ 260 ⌝ }
+    ensures { λ b. ⌜ b ≡ briefTurn c (now (r .entry)) ⌝ }
+{
+    let k = r[0];
+    if is_kind(k) {
+        if is_brief_kind(c, k) {
+            return bytes::zero_from(r, DATA_PLACE + bytes::wide(r[3]));
+        }
+    }
+    false
+}
