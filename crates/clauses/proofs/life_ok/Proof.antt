@@ -24,9 +24,10 @@ returns c =
 
 returns-2 : tie.Need-returns-2
 returns-2 c =
+    let if2 = c .before .before .if2 in
     let i = c .before .before .before in
     let g = i .before .before in
-    simp (← g .gp-ok .ensures, i .before .if1 .taken, ← i .internal-ok .ensures, c .before .before .if2 .taken, ← c .before .name-ok .ensures, c .if3 .left)
+    simp (← g .gp-ok .ensures, i .before .if1 .taken, ← i .internal-ok .ensures, if2 .taken, ← c .before .name-ok .ensures, c .if3 .left)
 
 returns-3 : tie.Need-returns-3
 returns-3 c =

@@ -42,9 +42,11 @@ passes-behind-requires c κs =
 
 returns : tie.Need-returns
 returns c =
+    let put-bytes = c .before .before .before .put-bytes in
+    let lay = c .before .before .before .before .before .before .lay in
     let s = c .before .before .before .before .before .before .before .before .before .before .args in
-    let e = laid-behind (now (s .order)) (c .before .before .before .before .before .before .lay .last .0) (c .before .before .before .put-bytes .last .0) (omega arith)
-    (c .before .before .before .before .before .before .lay .ensures) (c .before .before .before .put-bytes .ensures) in
+    let e = laid-behind (now (s .order)) (lay .last .0) (put-bytes .last .0) (omega arith)
+    (lay .ensures) (put-bytes .ensures) in
     rw (c .passes-behind .ensures, e) (complete-behind (s .capacity) (now (s .order)))
 
 pub is-complete-spec : {M : Type 1} → statement M

@@ -41,10 +41,13 @@ array-write-bytes c = search needs
 returns-2 : tie.Need-returns-2
 unfolding startup
 returns-2 c =
+    let padded7 = c .before .before .padded7 in
+    let if2 = c .before .before .before .if2 in
+    let if1 = c .before .before .before .before .if1 in
     λ a. let b = c .before .before .before .before .before in
     let s = b .before .before in
-    let e = ap (λ (x : List ℕ). set x 0 (c .smaller .result)) (c .before .before .padded7 .ensures) ∙ first-set 6 (c .smaller .result) (now (s .args .v)) (s .pre) in
-    rw (← b .is-startup .ensures, c .before .before .before .before .if1 .taken, le-ltb _ _ (c .before .before .before .if2 .left), ← c .smaller .ensures)
+    let e = ap (λ (x : List ℕ). set x 0 (c .smaller .result)) (padded7 .ensures) ∙ first-set 6 (c .smaller .result) (now (s .args .v)) (s .pre) in
+    rw (← b .is-startup .ensures, if1 .taken, le-ltb _ _ (if2 .left), ← c .smaller .ensures)
     (ap (λ (x : List ℕ). went 0 (changed (withStartup x) (stateOf (s .args .l) a))) e)
 
 returns-3 : tie.Need-returns-3

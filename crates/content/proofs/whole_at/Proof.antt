@@ -46,13 +46,16 @@ returns : tie.Need-returns
 returns c =
     λ a. let k = c .before .before .before .before in
     let s = k .before .before .before .args in
-    rw (c .with-taken .ensures) (whole-passes (s .capacity) (s .row) (s .at) (s .h) (now (s .d)) a (s .l) (k .kept-as .result) (k .kept-as .ensures a) _ (c .before .enum-told .given .1))
+    rw (c .with-taken .ensures)
+    (whole-passes (s .capacity) (s .row) (s .at) (s .h) (now (s .d)) a (s .l) (k .kept-as .result) (k .kept-as .ensures a) _ (c .before .enum-told .given .1))
 
 returns-2 : tie.Need-returns-2
 returns-2 c =
+    let verdict = c .before .before .verdict in
     λ a. let k = c .before .before .before .before .before in
     let s = k .before .before .before .args in
-    rw (c .failed-by .ensures) (whole-refused (s .capacity) (s .row) (s .at) (s .h) (now (s .d)) a (s .l) (k .kept-as .result) (k .kept-as .ensures a) _ (c .before .before .verdict .given .1))
+    rw (c .failed-by .ensures)
+    (whole-refused (s .capacity) (s .row) (s .at) (s .h) (now (s .d)) a (s .l) (k .kept-as .result) (k .kept-as .ensures a) _ (verdict .given .1))
 
 pub whole-at-spec : {M : Type 1} → statement M
 whole-at-spec =

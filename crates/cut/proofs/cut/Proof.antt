@@ -23,18 +23,27 @@ returns c = search needs
 
 mul-room : tie.Need-mul-room
 mul-room c =
-    let h = written-fits (now (c .before .before .before .before .before .before .before .before .before .args .chip)) (now (c .before .before .before .before .before .before .before .before .before .args .order)) (c .before .before .before .before .before .before .record-buffer .result) _ _ (c .before .before .before .before .write .ensures) in
+    let write = c .before .before .before .before .write in
+    let record-buffer = c .before .before .before .before .before .before .record-buffer in
+    let args = c .before .before .before .before .before .before .before .before .before .args in
+    let h = written-fits (now (args .chip)) (now (args .order)) (record-buffer .result) _ _ (write .ensures) in
     omega arith
 
 array-share-prefix-room : tie.Need-array-share-prefix-room
 array-share-prefix-room c =
-    let h = written-fits (now (c .before .before .before .before .before .before .before .before .before .args .chip)) (now (c .before .before .before .before .before .before .before .before .before .args .order)) (c .before .before .before .before .before .before .record-buffer .result) _ _ (c .before .before .before .before .write .ensures) in
-    omega (arith, c .before .before .before .before .write .kept .1 .1 .0)
+    let write = c .before .before .before .before .write in
+    let record-buffer = c .before .before .before .before .before .before .record-buffer in
+    let args = c .before .before .before .before .before .before .before .before .before .args in
+    let h = written-fits (now (args .chip)) (now (args .order)) (record-buffer .result) _ _ (write .ensures) in
+    omega (arith, write .kept .1 .1 .0)
 
 slice-aggregate-print-job : tie.Need-slice-aggregate-print-job
 slice-aggregate-print-job c =
-    let h = written-fits (now (c .before .before .before .before .before .before .before .before .before .before .args .chip)) (now (c .before .before .before .before .before .before .before .before .before .before .args .order)) (c .before .before .before .before .before .before .before .record-buffer .result) _ _ (c .before .before .before .before .before .write .ensures) in
-    simp length-take (omega (arith, c .before .before .before .before .before .write .kept .1 .1 .0))
+    let write = c .before .before .before .before .before .write in
+    let record-buffer = c .before .before .before .before .before .before .before .record-buffer in
+    let args = c .before .before .before .before .before .before .before .before .before .before .args in
+    let h = written-fits (now (args .chip)) (now (args .order)) (record-buffer .result) _ _ (write .ensures) in
+    simp length-take (omega (arith, write .kept .1 .1 .0))
 
 print-job-requires : tie.Need-print-job-requires
 print-job-requires c κs = search needs

@@ -28,7 +28,10 @@ unit-step-requires-2 c κs = search needs
 returns-2 : tie.Need-returns-2
 unfolding groupingStep
 returns-2 c =
-    simp (c .unit-step2 .ensures, c .before .before .least .ensures, ← c .before .before .before .before .before .is-spannable .ensures, c .before .before .before .before .if1 .left)
+    let least = c .before .before .least in
+    let if1 = c .before .before .before .before .if1 in
+    let is-spannable = c .before .before .before .before .before .is-spannable in
+    simp (c .unit-step2 .ensures, least .ensures, ← is-spannable .ensures, if1 .left)
 
 pub grouping-step-spec : {M : Type 1} → statement M
 grouping-step-spec =

@@ -46,14 +46,18 @@ grouping-step-requires c κs =
 
 returns-2 : tie.Need-returns-2
 returns-2 c =
+    let header-at = c .before .before .before .header-at in
     let a = c .before .before .before .before .before .before .args in
-    rw (c .unit-step .ensures) (sym (step-head (now (a .order)) (a .at) (a .inside) (a .room) (omega arith) Torn (sym (c .before .before .before .header-at .ensures) ∙ c .before .enum-told .given .1)))
+    rw (c .unit-step .ensures)
+    (sym (step-head (now (a .order)) (a .at) (a .inside) (a .room) (omega arith) Torn (sym (header-at .ensures) ∙ c .before .enum-told .given .1)))
 
 returns-3 : tie.Need-returns-3
 returns-3 c =
+    let header-at = c .before .before .before .before .header-at in
     let a = c .before .before .before .before .before .before .before .args in
     let h = c .before .before .h .given in
-    rw (c .grouping-step .ensures) (sym (step-head (now (a .order)) (a .at) (a .inside) (a .room) (omega arith) (Whole (h .0 .0)) (sym (c .before .before .before .before .header-at .ensures) ∙ h .1)))
+    rw (c .grouping-step .ensures)
+    (sym (step-head (now (a .order)) (a .at) (a .inside) (a .room) (omega arith) (Whole (h .0 .0)) (sym (header-at .ensures) ∙ h .1)))
 
 pub step-at-spec : {M : Type 1} → statement M
 step-at-spec =

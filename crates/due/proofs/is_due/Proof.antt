@@ -32,7 +32,9 @@ is-rising-requires c κs = search needs
 returns-2 : tie.Need-returns-2
 unfolding due readyFor
 returns-2 c =
-    rw (c .is-rising .ensures) (simp (← c .before .before .before .missing-before .ensures, c .before .before .if1 .left, eq-eqb _ _ (c .before .if2 .taken)))
+    let if1 = c .before .before .if1 in
+    let missing-before = c .before .before .before .missing-before in
+    rw (c .is-rising .ensures) (simp (← missing-before .ensures, if1 .left, eq-eqb _ _ (c .before .if2 .taken)))
 
 sub-result : tie.Need-sub-result
 sub-result c = search needs

@@ -25,8 +25,10 @@ same-length c = search needs
 
 returns : tie.Need-returns
 returns c =
+    let selected-by = c .before .before .selected-by in
+    let if1 = c .before .before .before .before .if1 in
     let s = c .before .before .before .before .before .before .before .before in
-    rw (event-select (s .args .kind) (s .args .p1) (now (s .args .d)) (s .args .c) _ (s .pre .2) (c .before .before .before .before .if1 .taken)) (c .before .before .selected-by .ensures _)
+    rw (event-select (s .args .kind) (s .args .p1) (now (s .args .d)) (s .args .c) _ (s .pre .2) (if1 .taken)) (selected-by .ensures _)
 
 unanswered-requires : tie.Need-unanswered-requires
 unanswered-requires c κs = let p = c .before .before .before .before .before .pre in (p .0, p .2, ne-eqb _ _ (c .before .if1 .left))
@@ -36,8 +38,9 @@ same-length-2 c = search needs
 
 returns-2 : tie.Need-returns-2
 returns-2 c =
+    let unanswered = c .before .before .before .unanswered in
     let s = c .before .before .before .before .before .before .before .before .before in
-    rw (event-outside (s .args .kind) (s .args .p1) (now (s .args .d)) (s .args .c) _ (s .pre .2), c .before .before .before .unanswered .ensures) (said _ _ _ _)
+    rw (event-outside (s .args .kind) (s .args .p1) (now (s .args .d)) (s .args .c) _ (s .pre .2), unanswered .ensures) (said _ _ _ _)
 
 pub lived-on-spec : {M : Type 1} → statement M
 lived-on-spec =

@@ -28,8 +28,11 @@ same-length c = search needs
 
 returns : tie.Need-returns
 returns c =
+    let stuck-by = c .before .before .stuck-by in
+    let if2 = c .before .before .before .before .if2 in
+    let if1 = c .before .before .before .before .before .before .if1 in
     let s = c .before .before .before .before .before .before .before .before .before .before .before .args in
-    rw (event-stuck (s .kind) (s .p1) (now (s .d)) (s .c) _ (c .before .before .before .before .before .before .if1 .taken) (c .before .before .before .before .if2 .taken)) (c .before .before .stuck-by .ensures _ _)
+    rw (event-stuck (s .kind) (s .p1) (now (s .d)) (s .c) _ (if1 .taken) (if2 .taken)) (stuck-by .ensures _ _)
 
 locked-now-requires : tie.Need-locked-now-requires
 locked-now-requires c κs = search needs

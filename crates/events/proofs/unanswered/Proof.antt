@@ -35,9 +35,10 @@ returns c =
 returns-2 : tie.Need-returns-2
 unfolding otherwise
 returns-2 c =
+    let if1 = c .before .before .if1 in
     let s = c .before .before .before .before .before in
     let two = eq-eqb _ _ (c .before .if2 .taken) in
-    rw (ne-eqb _ _ (c .before .before .if1 .left), two) (store-unselected _ _ (s .args .c) _ (brief-idle (s .args .kind) (s .args .c) (s .pre .1) two))
+    rw (ne-eqb _ _ (if1 .left), two) (store-unselected _ _ (s .args .c) _ (brief-idle (s .args .kind) (s .args .c) (s .pre .1) two))
 
 answered-foreign-requires : tie.Need-answered-foreign-requires
 answered-foreign-requires c κs = search needs

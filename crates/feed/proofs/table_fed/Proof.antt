@@ -61,15 +61,17 @@ loop-less c =
 
 loop-again : tie.Need-loop-again Inv-loop μ-loop
 loop-again c =
+    let next-fed = c .before .before .before .before .next-fed in
+    let args = c .before .before .before .before .before .before .before .before .before .args in
     let l = c .before .before .before .before .before .before .loop in
-    let d = now (c .before .before .before .before .before .before .before .before .before .args .d) in
-    let f = passed-to _ _ _ _ _ _ (c .before .before .before .before .next-fed .ensures []) _ (c .before .verdict .given .1) in (
+    let d = now (args .d) in
+    let f = passed-to _ _ _ _ _ _ (next-fed .ensures []) _ (c .before .verdict .given .1) in (
       omega arith,
       omega arith,
       omega arith,
       omega arith,
       fed-on d (l .i) (c .before .verdict .given .0 .0) (l .rest) _ _ (omega arith) (omega arith) (omega arith) (l .inv .4) (f .2),
-      λ a. l .inv .5 a ∙ table-passes-on d (l .i) (c .before .verdict .given .0 .0) _ _ _ (omega arith) (omega arith) (passed-to _ _ _ _ _ _ (c .before .before .before .before .next-fed .ensures a) _ (c .before .verdict .given .1) .2),
+      λ a. l .inv .5 a ∙ table-passes-on d (l .i) (c .before .verdict .given .0 .0) _ _ _ (omega arith) (omega arith) (passed-to _ _ _ _ _ _ (next-fed .ensures a) _ (c .before .verdict .given .1) .2),
     )
 
 enum-known-verdict-2 : tie.Need-enum-known-verdict-2 Inv-loop μ-loop
@@ -77,10 +79,13 @@ enum-known-verdict-2 c = search needs
 
 returns : tie.Need-returns Inv-loop μ-loop
 returns c =
+    let next-fed = c .before .before .before .before .next-fed in
+    let loop = c .before .before .before .before .before .before .loop in
+    let least = c .before .before .before .before .before .before .before .least in
     λ a.
     let s = c .before .before .before .before .before .before .before .before .before .args in
-    sym (table-feeds (now (s .d)) (s .at) 0 (s .missing) _ _ (c .before .before .before .before .before .before .before .least .ensures)
-    ∙ rw (c .before .before .before .before .before .before .loop .inv .5 a, refused-by _ _ _ _ _ _ (c .before .before .before .before .next-fed .ensures a) _ (c .before .verdict2 .given .1)))
+    sym (table-feeds (now (s .d)) (s .at) 0 (s .missing) _ _ (least .ensures)
+    ∙ rw (loop .inv .5 a, refused-by _ _ _ _ _ _ (next-fed .ensures a) _ (c .before .verdict2 .given .1)))
 
 returns-2 : tie.Need-returns-2 Inv-loop μ-loop
 unfolding tableBytes

@@ -31,7 +31,9 @@ fresh-card-requires-2 c κs = search needs
 returns-2 : tie.Need-returns-2
 unfolding freshOf
 returns-2 c =
-    simp (← c .before .before .before .before .is-chip .ensures, c .before .before .before .if1 .left, c .fresh-card2 .ensures, c .before .chip-of2 .ensures)
+    let if1 = c .before .before .before .if1 in
+    let is-chip = c .before .before .before .before .is-chip in
+    simp (← is-chip .ensures, if1 .left, c .fresh-card2 .ensures, c .before .chip-of2 .ensures)
 
 pub fresh-spec : {M : Type 1} → statement M
 fresh-spec =

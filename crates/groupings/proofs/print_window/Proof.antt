@@ -31,22 +31,32 @@ value-of-requires c κs = search needs
 
 print-grouping-requires : tie.Need-print-grouping-requires Inv-loop μ-loop
 print-grouping-requires c κs =
+    let found-at = c .before .before .before .before .found-at in
     let l = c .before .before .before .before .before .before .loop in
     let a = c .before .before .before .before .before .before .before .before .before .args in
-    let v = part-short (now (a .order)) (c .before .before .before .before .found-at .result .start) (c .before .before .before .before .found-at .result .len) in
+    let v = part-short (now (a .order)) (found-at .result .start) (found-at .result .len) in
     (omega arith, rw (c .before .value-of .ensures) (omega arith))
 
 loop-less : tie.Need-loop-less Inv-loop μ-loop
 loop-less c =
-    let e = c .before .before .before .before .before .before .before .found-at .ensures in
-    let h = found-ahead (now (c .before .before .before .before .before .before .before .before .before .before .before .before .args .order)) (c .before .before .before .before .before .before .before .before .before .loop .at) (rw e at (c .before .before .before .before .before .if1 .left)) in
+    let if1 = c .before .before .before .before .before .if1 in
+    let found-at = c .before .before .before .before .before .before .before .found-at in
+    let loop = c .before .before .before .before .before .before .before .before .before .loop in
+    let args = c .before .before .before .before .before .before .before .before .before .before .before .before .args in
+    let e = found-at .ensures in
+    let h = found-ahead (now (args .order)) (loop .at) (rw e at (if1 .left)) in
     rw e (omega arith)
 
 loop-again : tie.Need-loop-again Inv-loop μ-loop
 loop-again c =
-    let e = c .before .before .before .before .before .before .before .found-at .ensures in
-    let h = found-ahead (now (c .before .before .before .before .before .before .before .before .before .before .before .before .args .order)) (c .before .before .before .before .before .before .before .before .before .loop .at) (rw e at (c .before .before .before .before .before .if1 .left)) in
-    (rw e (h .1), omega arith, c .before .before .print-grouping .ensures .1 ∙ c .before .before .before .before .before .before .before .before .before .loop .inv .2)
+    let print-grouping = c .before .before .print-grouping in
+    let if1 = c .before .before .before .before .before .if1 in
+    let found-at = c .before .before .before .before .before .before .before .found-at in
+    let loop = c .before .before .before .before .before .before .before .before .before .loop in
+    let args = c .before .before .before .before .before .before .before .before .before .before .before .before .args in
+    let e = found-at .ensures in
+    let h = found-ahead (now (args .order)) (loop .at) (rw e at (if1 .left)) in
+    (rw e (h .1), omega arith, print-grouping .ensures .1 ∙ loop .inv .2)
 
 same-length-2 : tie.Need-same-length-2 Inv-loop μ-loop
 same-length-2 c = search needs

@@ -37,11 +37,15 @@ add-result c = search needs
 
 same-length : tie.Need-same-length
 same-length c =
-    simp length-set (simp length-set at (c .before .before .put-value .ensures .1) ∙ c .before .before .before .before .before .before .put-hex .ensures .1)
+    let put-value = c .before .before .put-value in
+    let put-hex = c .before .before .before .before .before .before .put-hex in
+    simp length-set (simp length-set at (put-value .ensures .1) ∙ put-hex .ensures .1)
 
 returns : tie.Need-returns
 returns c =
-    (omega arith, simp length-set (simp length-set at (c .before .before .put-value .ensures .1) ∙ c .before .before .before .before .before .before .put-hex .ensures .1))
+    let put-value = c .before .before .put-value in
+    let put-hex = c .before .before .before .before .before .before .put-hex in
+    (omega arith, simp length-set (simp length-set at (put-value .ensures .1) ∙ put-hex .ensures .1))
 
 pub put-grouping-spec : {M : Type 1} → statement M
 put-grouping-spec =

@@ -59,19 +59,24 @@ word-at-requires-2 c κs = search needs
 
 returns-5 : tie.Need-returns-5
 returns-5 c =
+    let if3 = c .before .before .before .if3 in
+    let wide = c .before .before .before .before .wide in
     let a = c .before .before .before .before .before .before .before .before .before .before .args in
-    let w = c .before .before .before .before .wide .ensures .0 in
-    sym (long-ffff (now (a .s)) (a .at) (omega arith) (rw w at (c .before .before .before .if3 .left)) (rw (c .before .word-at2 .ensures) at (c .if5 .taken)))
+    let w = wide .ensures .0 in
+    sym (long-ffff (now (a .s)) (a .at) (omega arith) (rw w at (if3 .left)) (rw (c .before .word-at2 .ensures) at (c .if5 .taken)))
 
 cast-t7 : tie.Need-cast-t7
 cast-t7 c = search needs
 
 returns-6 : tie.Need-returns-6
 returns-6 c =
+    let if3 = c .before .before .before .if3 in
+    let wide = c .before .before .before .before .wide in
+    let word-at = c .before .before .before .before .before .before .word-at in
     let a = c .before .before .before .before .before .before .before .before .before .before .args in
-    let w = c .before .before .before .before .wide .ensures .0 in
+    let w = wide .ensures .0 in
     let l = c .before .word-at2 .ensures in
-    rw (c .before .before .before .before .before .before .word-at .ensures, l) (sym (long-form (now (a .s)) (a .at) (omega arith) (rw w at (c .before .before .before .if3 .left)) (rw l at (c .if5 .left))))
+    rw (word-at .ensures, l) (sym (long-form (now (a .s)) (a .at) (omega arith) (rw w at (if3 .left)) (rw l at (c .if5 .left))))
 
 pub header-at-spec : {M : Type 1} → statement M
 header-at-spec =

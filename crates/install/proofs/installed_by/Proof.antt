@@ -32,9 +32,10 @@ same-length-2 c = search needs
 returns-3 : tie.Need-returns-3
 unfolding install
 returns-3 c =
+    let installed2 = c .before .before .installed2 in
     let three = c .before .before .before .before in
     let two = three .before in
-    simp (ne-eqb _ 0x08 (two .before .if1 .left), ne-eqb _ 0x04 (two .if2 .left), eq-eqb _ 0x0C (three .if3 .taken)) (c .before .before .installed2 .ensures)
+    simp (ne-eqb _ 0x08 (two .before .if1 .left), ne-eqb _ 0x04 (two .if2 .left), eq-eqb _ 0x0C (three .if3 .taken)) (installed2 .ensures)
 
 returns-4 : tie.Need-returns-4
 unfolding install

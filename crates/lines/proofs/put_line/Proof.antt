@@ -39,10 +39,12 @@ slice-write-out c = search needs
 returns : tie.Need-returns
 unfolding lineWith
 returns c =
+    let put-two = c .before .before .put-two in
+    let count = c .before .before .before .count in
     let u = c .before .before .before .before .before .before .before in
     let v = u .before .before .before .before in
     let a = v .before .before .before .before .args in
-    rw (c .before .before .put-two .ensures, u .put-states .ensures, v .put-counts .ensures, v .before .capped .ensures, c .before .before .before .count .ensures)
+    rw (put-two .ensures, u .put-states .ensures, v .put-counts .ensures, v .before .capped .ensures, count .ensures)
     (run-line (now (a .out)) _ _ _ _ _ _ _ _ refl (omega arith) (omega arith))
 
 same-length : tie.Need-same-length

@@ -38,19 +38,21 @@ same-length c = search needs
 returns : tie.Need-returns
 unfolding command
 returns c =
+    let course = c .before .before .before .course in
     let f = c .before .before .before .before .before .before .before in
     let s = f .before .before .before .before .args in
     let t = stateOf (f .fed-first .result .load) (f .fed-first .last .1 .0) in
-    let g = c .before .before .before .course .given in
+    let g = course .given in
     let e = sym (ap (λ (x : Course). coursed x (now (s .d)) t) (g .1)) ∙ f .fed-first .ensures in
     c .ended-by .ensures _ ∙ rw (← e, walk-ends (s .capacity) (length (now (s .d))) (s .p1) t (length (drop (g .0 .0) (now (s .d)))) (g .0 .0) (now (s .d)) (omega arith))
 
 walked-on-requires : tie.Need-walked-on-requires
 walked-on-requires c κs =
+    let course = c .before .before .before .course in
     let f = c .before .before .before .before .before .before .before in
     let s = f .before .before .before .before in
     let t = stateOf (f .fed-first .result .load) (f .fed-first .last .1 .0) in
-    let e = sym (ap (λ (x : Course). coursed x (now (s .args .d)) t) (c .before .before .before .course .given .1)) ∙ f .fed-first .ensures in
+    let e = sym (ap (λ (x : Course). coursed x (now (s .args .d)) t) (course .given .1)) ∙ f .fed-first .ensures in
     (omega arith, subst (GoesOn activeLife areaSize) (sym e) (fed-goes activeLife areaSize refl refl (now (s .args .d)) (stateOf (s .args .l) (now (s .args .area))) (s .pre)))
 
 enum-told : tie.Need-enum-told

@@ -28,7 +28,9 @@ failed-by-requires c κs = search needs
 returns-2 : tie.Need-returns-2
 unfolding theEnd ready
 returns-2 c =
-    λ a. rw (c .failed-by .ensures, le-leb _ _ (c .before .before .before .if1 .left), ← c .before .before .mandatory-missing .ensures, c .before .if2 .taken)
+    let mandatory-missing = c .before .before .mandatory-missing in
+    let if1 = c .before .before .before .if1 in
+    λ a. rw (c .failed-by .ensures, le-leb _ _ (if1 .left), ← mandatory-missing .ensures, c .before .if2 .taken)
 
 enum-told : tie.Need-enum-told
 enum-told c = search needs
@@ -48,17 +50,26 @@ failed-by-requires-3 c κs = search needs
 returns-3 : tie.Need-returns-3
 unfolding theEnd ready
 returns-3 c =
-    λ a. rw (le-leb _ _ (c .before .before .before .before .if1 .left), ← c .before .before .before .mandatory-missing .ensures, c .before .before .if2 .left, c .enum-told .given .1)
+    let if2 = c .before .before .if2 in
+    let mandatory-missing = c .before .before .before .mandatory-missing in
+    let if1 = c .before .before .before .before .if1 in
+    λ a. rw (le-leb _ _ (if1 .left), ← mandatory-missing .ensures, if2 .left, c .enum-told .given .1)
 
 returns-4 : tie.Need-returns-4
 unfolding theEnd ready
 returns-4 c =
-    λ a. rw (c .failed-by2 .ensures, le-leb _ _ (c .before .before .before .before .before .if1 .left), ← c .before .before .before .before .mandatory-missing .ensures, c .before .before .before .if2 .left, c .before .enum-told2 .given .1)
+    let if2 = c .before .before .before .if2 in
+    let mandatory-missing = c .before .before .before .before .mandatory-missing in
+    let if1 = c .before .before .before .before .before .if1 in
+    λ a. rw (c .failed-by2 .ensures, le-leb _ _ (if1 .left), ← mandatory-missing .ensures, if2 .left, c .before .enum-told2 .given .1)
 
 returns-5 : tie.Need-returns-5
 unfolding theEnd ready
 returns-5 c =
-    λ a. rw (c .failed-by3 .ensures, le-leb _ _ (c .before .before .before .before .before .if1 .left), ← c .before .before .before .before .mandatory-missing .ensures, c .before .before .before .if2 .left, c .before .enum-told3 .given .1)
+    let if2 = c .before .before .before .if2 in
+    let mandatory-missing = c .before .before .before .before .mandatory-missing in
+    let if1 = c .before .before .before .before .before .if1 in
+    λ a. rw (c .failed-by3 .ensures, le-leb _ _ (if1 .left), ← mandatory-missing .ensures, if2 .left, c .before .enum-told3 .given .1)
 
 pub ended-by-spec : {M : Type 1} → statement M
 ended-by-spec =

@@ -62,10 +62,13 @@ sub-turns-2 : tie.Need-sub-turns-2 Inv-loop μ-loop
 sub-turns-2 c = search needs
 
 loop-less : tie.Need-loop-less Inv-loop μ-loop
-loop-less c = let r = c .before .before .before .before .before .before .before .before .before .before .before .run-from .ensures in omega (arith, r .0, r .1)
+loop-less c =
+    let run-from = c .before .before .before .before .before .before .before .before .before .before .before .run-from in
+    let r = run-from .ensures in omega (arith, r .0, r .1)
 
 loop-again : tie.Need-loop-again Inv-loop μ-loop
 loop-again c =
+    let course = c .before .before .course in
     let f = c .before .before .before .before .before .before .before .before .before .before .before in
     let l = f .before .before .before .loop in
     let s = f .before .before .before .before .before .before .args in
@@ -73,8 +76,8 @@ loop-again c =
     let x = stateOf (withLast (f .run-from .result .last) (l .load)) (f .run-from .last .1 .0) in
     let g = c .before .before .before .before .before .before in
     let t = stateOf (g .grouping-at .result .load) (g .grouping-at .last .1 .0) in
-    let e = sym (ap (λ (y : Course). coursed y (now (s .d)) t) (c .before .before .course .given .1)) ∙ g .grouping-at .ensures in
-    let w = walk-goes (s .capacity) (length (now (s .d))) (s .p1) x (f .run-from .result .turns) (f .run-from .result .at) (c .before .before .course .given .0 .0) (now (s .d)) t (omega (arith, r .0)) (omega arith) (r .2) e in
+    let e = sym (ap (λ (y : Course). coursed y (now (s .d)) t) (course .given .1)) ∙ g .grouping-at .ensures in
+    let w = walk-goes (s .capacity) (length (now (s .d))) (s .p1) x (f .run-from .result .turns) (f .run-from .result .at) (course .given .0 .0) (now (s .d)) t (omega (arith, r .0)) (omega arith) (r .2) e in
     (w .0, g .grouping-at .kept .1 .0 ∙ f .run-from .kept .1 .0 ∙ l .inv .1, l .inv .2 ∙ r .3 _ _ _ ∙ w .1)
 
 enum-told : tie.Need-enum-told Inv-loop μ-loop

@@ -24,13 +24,14 @@ tail-is-requires c κs = search needs
 
 returns : tie.Need-returns
 returns c =
+    let if3 = c .before .before .if3 in
     let three = c .before .before .before in
     let two = three .before .before in
     let one = two .before .before in
     let p = one .before in
     c .tail-is .ensures
     ∙ sym (install-form _ (p .places-in .result) (p .places-in .ensures .0)
-    ∙ simp (← one .name-length .ensures, two .before .if1 .taken, ← two .name-length2 .ensures, three .before .if2 .taken, ← three .name-length3 .ensures, c .before .before .if3 .taken))
+    ∙ simp (← one .name-length .ensures, two .before .if1 .taken, ← two .name-length2 .ensures, three .before .if2 .taken, ← three .name-length3 .ensures, if3 .taken))
 
 returns-2 : tie.Need-returns-2
 returns-2 c =

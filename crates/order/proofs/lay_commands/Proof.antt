@@ -66,10 +66,11 @@ loop-less c =
 
 loop-again : tie.Need-loop-again Inv-loop μ-loop
 loop-again c =
+    let lay-record = c .before .before .before .lay-record in
     let l = c .before .before .before .before .before .before .before .before .loop in
     let a = c .before .before .before .before .before .before .before .before .before .before .before .before .args in
-    laid-more (now (a .order)) (now (a .room)) (a .from) (l .room) (c .before .before .before .lay-record .last .0) (l .start) (l .end) (c .command-end2 .result) (l .to)
-    (l .inv) (omega arith) (c .before .before .before .lay-record .ensures) (c .command-end2 .ensures)
+    laid-more (now (a .order)) (now (a .room)) (a .from) (l .room) (lay-record .last .0) (l .start) (l .end) (c .command-end2 .result) (l .to)
+    (l .inv) (omega arith) (lay-record .ensures) (c .command-end2 .ensures)
 
 sub-lay-record-2 : tie.Need-sub-lay-record-2 Inv-loop μ-loop
 sub-lay-record-2 c =

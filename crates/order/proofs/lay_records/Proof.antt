@@ -26,9 +26,11 @@ same-length c = search needs
 
 returns : tie.Need-returns
 returns c =
+    let lay-commands = c .before .before .lay-commands in
+    let lay-record = c .before .before .before .before .before .before .lay-record in
     let a = c .before .before .before .before .before .before .before .before .before .before .before .args in
-    laid-all (now (a .order)) (now (a .room)) (c .before .before .before .before .before .before .lay-record .last .0) (c .before .before .lay-commands .last .1 .0)
-    (c .before .before .before .before .before .before .lay-record .ensures) (c .before .before .lay-commands .ensures)
+    laid-all (now (a .order)) (now (a .room)) (lay-record .last .0) (lay-commands .last .1 .0)
+    (lay-record .ensures) (lay-commands .ensures)
 
 pub lay-records-spec : {M : Type 1} → statement M
 lay-records-spec =

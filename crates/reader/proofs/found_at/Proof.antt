@@ -27,20 +27,23 @@ enum-known-pulled c = search needs
 
 add-t8 : tie.Need-add-t8
 add-t8 c =
+    let pull-at = c .before .before .before .pull-at in
     let a = c .before .before .before .before .before .args in
     let p = c .before .pulled .given in
-    let w = grouping-inside (now (a .order)) (a .at) (p .0 .0) (p .0 .1 .0) (p .0 .1 .1 .0) (sym (p .1) ∙ c .before .before .before .pull-at .ensures) in
+    let w = grouping-inside (now (a .order)) (a .at) (p .0 .0) (p .0 .1 .0) (p .0 .1 .1 .0) (sym (p .1) ∙ pull-at .ensures) in
     omega arith
 
 returns : tie.Need-returns
 returns c =
+    let pull-at = c .before .before .before .pull-at in
     let a = c .before .before .before .before .before .args in
-    c .nothing-found .ensures ∙ found-so (now (a .order)) (a .at) Ended (sym (c .before .enum-told .given .1) ∙ c .before .before .before .pull-at .ensures)
+    c .nothing-found .ensures ∙ found-so (now (a .order)) (a .at) Ended (sym (c .before .enum-told .given .1) ∙ pull-at .ensures)
 
 returns-2 : tie.Need-returns-2
 returns-2 c =
+    let pull-at = c .before .before .before .pull-at in
     let a = c .before .before .before .before .before .args in
-    c .nothing-found2 .ensures ∙ found-so (now (a .order)) (a .at) Broken (sym (c .before .enum-told2 .given .1) ∙ c .before .before .before .pull-at .ensures)
+    c .nothing-found2 .ensures ∙ found-so (now (a .order)) (a .at) Broken (sym (c .before .enum-told2 .given .1) ∙ pull-at .ensures)
 
 returns-3 : tie.Need-returns-3
 returns-3 c =

@@ -29,15 +29,17 @@ sub-if2-2 c =
 
 returns-2 : tie.Need-returns-2
 returns-2 c =
+    let header-at = c .before .before .before .before .before .before .header-at in
     let a = c .before .before .before .before .before .before .before .before .before .args in
     let h = c .before .before .before .before .h .given in
-    sym (pull-short (now (a .order)) (a .at) (omega arith) (h .0 .0) (sym (c .before .before .before .before .before .before .header-at .ensures) ∙ h .1) (omega arith))
+    sym (pull-short (now (a .order)) (a .at) (omega arith) (h .0 .0) (sym (header-at .ensures) ∙ h .1) (omega arith))
 
 add-t8 : tie.Need-add-t8
 add-t8 c =
+    let header-at = c .before .before .before .before .before .before .before .header-at in
     let a = c .before .before .before .before .before .before .before .before .before .before .args in
     let h = c .before .before .before .before .before .h .given in
-    let w = head-there (now (a .order)) (a .at) (omega arith) (h .0 .0) (sym (c .before .before .before .before .before .before .before .header-at .ensures) ∙ h .1) in
+    let w = head-there (now (a .order)) (a .at) (omega arith) (h .0 .0) (sym (header-at .ensures) ∙ h .1) in
     omega arith
 
 returns-3 : tie.Need-returns-3
@@ -47,9 +49,10 @@ returns-3 c =
 
 returns-4 : tie.Need-returns-4
 returns-4 c =
+    let header-at = c .before .before .before .before .before .before .before .header-at in
     let a = c .before .before .before .before .before .before .before .before .before .before .args in
     let h = c .before .before .before .before .before .h .given in
-    sym (pull-whole (now (a .order)) (a .at) (omega arith) (h .0 .0) (sym (c .before .before .before .before .before .before .before .header-at .ensures) ∙ h .1) (omega arith))
+    sym (pull-whole (now (a .order)) (a .at) (omega arith) (h .0 .0) (sym (header-at .ensures) ∙ h .1) (omega arith))
 
 pub pull-at-spec : {M : Type 1} → statement M
 pull-at-spec =

@@ -27,8 +27,9 @@ part-result-end c = search needs
 
 returns : tie.Need-returns
 returns c =
+    let least = c .before .before .least in
     let a = c .before .before .before .before .args in
-    part-so (now (a .order)) (a .found .start) (a .found .len) (c .before .before .least .result) (c .before .least2 .result) (c .before .before .least .ensures) (c .before .least2 .ensures)
+    part-so (now (a .order)) (a .found .start) (a .found .len) (least .result) (c .before .least2 .result) (least .ensures) (c .before .least2 .ensures)
 
 pub value-of-spec : {M : Type 1} → statement M
 value-of-spec =

@@ -47,10 +47,12 @@ placed-requires c κs =
 
 returns-2 : tie.Need-returns-2
 returns-2 c =
+    let if2 = c .before .before .if2 in
+    let follows = c .before .before .before .follows in
     let b = c .before .before .before .before .before in
     let s = b .before .before .before .before .before in
     let e = sym (b .before .before .header-at .ensures) ∙ b .header .given .1 in
-    fit-of _ _ _ _ _ _ (c .placed .result) (omega arith) e refl (sym (c .before .before .before .follows .ensures) ∙ c .before .before .if2 .taken) (c .placed .ensures)
+    fit-of _ _ _ _ _ _ (c .placed .result) (omega arith) e refl (sym (follows .ensures) ∙ if2 .taken) (c .placed .ensures)
 
 returns-3 : tie.Need-returns-3
 returns-3 c = search needs

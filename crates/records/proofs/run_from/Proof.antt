@@ -28,8 +28,12 @@ is-taken-requires c κs = search needs
 
 run-on-requires : tie.Need-run-on-requires
 run-on-requires c κs =
+    let is-taken = c .before .before .is-taken in
+    let if2 = c .before .before .before .if2 in
+    let missing-before = c .before .before .before .before .missing-before in
+    let if1 = c .before .before .before .before .before .if1 in
     let s = c .before .before .before .before .before .before .before .before .before in
-    (s .pre .0, record { personal = c .before .before .before .before .before .if1 .left; repeated = sym (c .before .before .is-taken .ensures) ∙ c .before .if3 .taken; ready = sym (c .before .before .before .before .missing-before .ensures) ∙ c .before .before .before .if2 .left }, s .pre .1)
+    (s .pre .0, record { personal = if1 .left; repeated = sym (is-taken .ensures) ∙ c .before .if3 .taken; ready = sym (missing-before .ensures) ∙ if2 .left }, s .pre .1)
 
 same-length : tie.Need-same-length
 same-length c = search needs

@@ -92,12 +92,13 @@ loop-less c = search needs
 
 loop-again : tie.Need-loop-again Inv-loop μ-loop
 loop-again c =
+    let put-bytes = c .before .before .put-bytes in
     let f = c .before .before .before .before .before .before in
     let l = f .before .before .before .before .loop in
     let s = f .before .before .before .before .before .before .before .before in
     let x = subst (FitAt (fileList (s .args .l)) (l .last) (now (s .args .d)) (l .i)) (f .fit .given .1) (f .before .before .fit-at .ensures) in
-    let g = run-turn (s .args .l) (l .area) _ (now (s .args .d)) (l .left) (l .i) _ _ _ _ (l .last) (omega arith) (s .pre .1) (l .inv .3) x (c .before .before .put-bytes .ensures) in
-    (omega arith, omega (arith, l .inv .1), c .before .before .put-bytes .kept .0 ∙ l .inv .2, g .0, λ k n p. l .inv .4 k n p ∙ g .1 k n p)
+    let g = run-turn (s .args .l) (l .area) _ (now (s .args .d)) (l .left) (l .i) _ _ _ _ (l .last) (omega arith) (s .pre .1) (l .inv .3) x (put-bytes .ensures) in
+    (omega arith, omega (arith, l .inv .1), put-bytes .kept .0 ∙ l .inv .2, g .0, λ k n p. l .inv .4 k n p ∙ g .1 k n p)
 
 same-length-2 : tie.Need-same-length-2 Inv-loop μ-loop
 same-length-2 c = search needs

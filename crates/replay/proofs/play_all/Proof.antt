@@ -26,8 +26,9 @@ loop-holds c = (c .before .before .before .pre .0, omega arith, refl, refl, refl
 
 play-block-requires : tie.Need-play-block-requires Inv-loop μ-loop
 play-block-requires c κs =
+    let pre = c .before .before .before .before .before .before .before .before .pre in
     let l = c .before .before .before .before .loop in
-    (l .inv .0, l .inv .1, l .inv .3 ∙ c .before .before .before .before .before .before .before .before .pre .1, l .inv .4 ∙ c .before .before .before .before .before .before .before .before .pre .2)
+    (l .inv .0, l .inv .1, l .inv .3 ∙ pre .1, l .inv .4 ∙ pre .2)
 
 sub-turns : tie.Need-sub-turns Inv-loop μ-loop
 sub-turns c = search needs
@@ -43,15 +44,21 @@ loop-again c =
 
 same-length : tie.Need-same-length Inv-loop μ-loop
 same-length c =
-    c .before .before .before .before .before .before .before .before .play-block .kept .1 .0 ∙ c .before .before .before .before .before .before .before .before .before .before .before .before .before .loop .inv .2
+    let play-block = c .before .before .before .before .before .before .before .before .play-block in
+    let loop = c .before .before .before .before .before .before .before .before .before .before .before .before .before .loop in
+    play-block .kept .1 .0 ∙ loop .inv .2
 
 same-length-2 : tie.Need-same-length-2 Inv-loop μ-loop
 same-length-2 c =
-    c .before .before .before .before .before .before .before .before .play-block .kept .1 .1 .1 .0 ∙ c .before .before .before .before .before .before .before .before .before .before .before .before .before .loop .inv .3
+    let play-block = c .before .before .before .before .before .before .before .before .play-block in
+    let loop = c .before .before .before .before .before .before .before .before .before .before .before .before .before .loop in
+    play-block .kept .1 .1 .1 .0 ∙ loop .inv .3
 
 same-length-3 : tie.Need-same-length-3 Inv-loop μ-loop
 same-length-3 c =
-    c .before .before .before .before .before .before .before .before .play-block .kept .1 .1 .1 .1 .0 ∙ c .before .before .before .before .before .before .before .before .before .before .before .before .before .loop .inv .4
+    let play-block = c .before .before .before .before .before .before .before .before .play-block in
+    let loop = c .before .before .before .before .before .before .before .before .before .before .before .before .before .loop in
+    play-block .kept .1 .1 .1 .1 .0 ∙ loop .inv .4
 
 returns : tie.Need-returns Inv-loop μ-loop
 returns c = search needs

@@ -28,7 +28,9 @@ slice-aggregate-enter-all c = simp length-take (omega (arith, c .before .before 
 
 enter-all-requires : tie.Need-enter-all-requires
 enter-all-requires c κs =
-    (c .before .before .before .before .before .before .before .before .before .before .pre .0, c .before .before .before .before .before .before .before .before .before .before .pre .1, simp length-take (omega (arith, c .before .before .before .before .before .read-full .ensures .0, c .before .before .before .before .before .read-full .kept .1 .0, c .before .before .before .before .before .before .before .before .before .before .pre .2, c .before .before .before .before .before .before .before .before .before .before .pre .3)))
+    let read-full = c .before .before .before .before .before .read-full in
+    let pre = c .before .before .before .before .before .before .before .before .before .before .pre in
+    (pre .0, pre .1, simp length-take (omega (arith, read-full .ensures .0, read-full .kept .1 .0, pre .2, pre .3)))
 
 mul-write-all : tie.Need-mul-write-all
 mul-write-all c = search needs
@@ -38,7 +40,10 @@ slice-reshare-prefix-write-all c = search needs
 
 slice-aggregate-write-all : tie.Need-slice-aggregate-write-all
 slice-aggregate-write-all c =
-    simp length-take (omega (arith, c .before .before .before .before .before .before .before .before .before .before .before .before .read-full .ensures .0, c .before .before .before .before .before .before .before .before .before .before .before .before .read-full .kept .1 .0, c .before .before .before .before .before .before .enter-all .kept .1 .1 .1 .1 .0, c .before .before .before .before .before .before .before .before .before .before .before .before .before .before .before .before .before .pre .2, c .before .before .before .before .before .before .before .before .before .before .before .before .before .before .before .before .before .pre .3))
+    let enter-all = c .before .before .before .before .before .before .enter-all in
+    let read-full = c .before .before .before .before .before .before .before .before .before .before .before .before .read-full in
+    let pre = c .before .before .before .before .before .before .before .before .before .before .before .before .before .before .before .before .before .pre in
+    simp length-take (omega (arith, read-full .ensures .0, read-full .kept .1 .0, enter-all .kept .1 .1 .1 .1 .0, pre .2, pre .3))
 
 write-all-requires : tie.Need-write-all-requires
 write-all-requires c κs = search needs

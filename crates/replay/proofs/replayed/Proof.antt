@@ -43,7 +43,12 @@ slice-aggregate-play-all-3 c = search needs
 
 play-all-requires : tie.Need-play-all-requires
 play-all-requires c κs =
-    (rw (c .before .before .before .before .before .before .before .before .before .fresh .ensures, c .before .before .before .before .before .clear-area .ensures .0) (fresh-keeps (now (c .before .before .before .before .before .before .before .before .before .before .before .args .chip))), sym (c .before .before .before .before .block-buffer .ensures), sym (c .before .before .before .line-buffer .ensures))
+    let line-buffer = c .before .before .before .line-buffer in
+    let block-buffer = c .before .before .before .before .block-buffer in
+    let clear-area = c .before .before .before .before .before .clear-area in
+    let fresh = c .before .before .before .before .before .before .before .before .before .fresh in
+    let args = c .before .before .before .before .before .before .before .before .before .before .before .args in
+    (rw (fresh .ensures, clear-area .ensures .0) (fresh-keeps (now (args .chip))), sym (block-buffer .ensures), sym (line-buffer .ensures))
 
 returns-2 : tie.Need-returns-2
 returns-2 c = search needs

@@ -26,13 +26,14 @@ queried-requires c κs = search needs
 
 returns : tie.Need-returns
 returns c =
+    let is-query = c .before .before .is-query in
     let s = c .before .before .before .before .before in
     let b = drop (s .args .at) (now (s .args .d)) in
     let x = stateOf (s .args .l) (now (s .args .area)) in
     let n = length (now (s .args .d)) in
     query-stops (c .queried .result .course) (now (s .args .d)) (stateOf (c .queried .result .load) (now (s .args .area))) (query n (s .args .p1) b (s .args .h) x) (λ a. fromC (s .args .capacity) (s .args .h) b)
     (c .queried .ensures b (now (s .args .area)) (length-drop (s .args .at) (now (s .args .d)))) (query-ends n (s .args .p1) b (s .args .h) x)
-    ∙ sym (b-query (s .args .capacity) n (s .args .p1) (s .args .h) b x (sym (c .before .before .is-query .ensures) ∙ c .before .if1 .taken))
+    ∙ sym (b-query (s .args .capacity) n (s .args .p1) (s .args .h) b x (sym (is-query .ensures) ∙ c .before .if1 .taken))
 
 from-c-requires : tie.Need-from-c-requires
 from-c-requires c κs = search needs
@@ -42,9 +43,12 @@ same-length c = search needs
 
 returns-2 : tie.Need-returns-2
 returns-2 c =
+    let from-c = c .before .before .from-c in
+    let if1 = c .before .before .before .before .if1 in
+    let is-query = c .before .before .before .before .before .is-query in
     let s = c .before .before .before .before .before .before .before .before in
-    c .before .before .from-c .ensures
-    ∙ sym (b-other (s .args .capacity) (length (now (s .args .d))) (s .args .p1) (s .args .h) (drop (s .args .at) (now (s .args .d))) (stateOf (s .args .l) (now (s .args .area))) (sym (c .before .before .before .before .before .is-query .ensures) ∙ c .before .before .before .before .if1 .left))
+    from-c .ensures
+    ∙ sym (b-other (s .args .capacity) (length (now (s .args .d))) (s .args .p1) (s .args .h) (drop (s .args .at) (now (s .args .d))) (stateOf (s .args .l) (now (s .args .area))) (sym (is-query .ensures) ∙ if1 .left))
 
 pub from-b-spec : {M : Type 1} → statement M
 from-b-spec =

@@ -34,8 +34,10 @@ same-length c = search needs
 
 returns-2 : tie.Need-returns-2
 returns-2 c =
+    let from-d = c .before .before .from-d in
+    let if1 = c .before .before .before .before .if1 in
     let s = c .before .before .before .before .before .before .before .before in
-    c .before .before .from-d .ensures ∙ sym (c-moves (s .args .capacity) (s .args .h) (drop (s .args .at) (now (s .args .d))) (stateOf (s .args .l) (now (s .args .area))) (c .before .before .before .before .if1 .left))
+    from-d .ensures ∙ sym (c-moves (s .args .capacity) (s .args .h) (drop (s .args .at) (now (s .args .d))) (stateOf (s .args .l) (now (s .args .area))) (if1 .left))
 
 pub from-c-spec : {M : Type 1} → statement M
 from-c-spec = tie.close (tie.spec failed-by-requires returns from-d-requires same-length returns-2)

@@ -41,15 +41,21 @@ same-length c = search needs
 
 returns : tie.Need-returns
 returns c =
+    let from-e = c .before .before .from-e in
+    let verdict = c .before .before .before .before .before .verdict in
+    let due-row = c .before .before .before .before .before .before .before .due-row in
     let s = c .before .before .before .before .before .before .before .before .before .before in
-    let e = sym (c .before .before .before .before .before .before .before .due-row .ensures) ∙ c .before .before .before .before .before .verdict .given .1 in
-    c .before .before .from-e .ensures ∙ sym (d-passes (s .args .capacity) (s .args .h) (drop (s .args .at) (now (s .args .d))) (stateOf (s .args .l) (now (s .args .area))) _ e)
+    let e = sym (due-row .ensures) ∙ verdict .given .1 in
+    from-e .ensures ∙ sym (d-passes (s .args .capacity) (s .args .h) (drop (s .args .at) (now (s .args .d))) (stateOf (s .args .l) (now (s .args .area))) _ e)
 
 returns-2 : tie.Need-returns-2
 returns-2 c =
+    let verdict2 = c .before .before .verdict2 in
+    let due-row = c .before .before .before .before .due-row in
     let s = c .before .before .before .before .before .before .before in
-    let e = sym (c .before .before .before .before .due-row .ensures) ∙ c .before .before .verdict2 .given .1 in
-    rw (c .failed-by .ensures) (sym (d-refuses (s .args .capacity) (s .args .h) (drop (s .args .at) (now (s .args .d))) (stateOf (s .args .l) (now (s .args .area))) _ e))
+    let e = sym (due-row .ensures) ∙ verdict2 .given .1 in
+    rw (c .failed-by .ensures)
+    (sym (d-refuses (s .args .capacity) (s .args .h) (drop (s .args .at) (now (s .args .d))) (stateOf (s .args .l) (now (s .args .area))) _ e))
 
 pub from-d-spec : {M : Type 1} → statement M
 from-d-spec =

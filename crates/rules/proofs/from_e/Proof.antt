@@ -27,8 +27,10 @@ enum-known-verdict c = search needs
 
 from-f-requires : tie.Need-from-f-requires
 from-f-requires c κs =
+    let verdict = c .before .before .verdict in
+    let room-of = c .before .before .before .before .room-of in
     let s = c .before .before .before .before .before .before .before in
-    (s .pre .0, s .pre .1, record { dued = s .pre .2; roomed = sym (c .before .before .before .before .room-of .ensures) ∙ c .before .before .verdict .given .1 }, s .pre .3)
+    (s .pre .0, s .pre .1, record { dued = s .pre .2; roomed = sym (room-of .ensures) ∙ verdict .given .1 }, s .pre .3)
 
 enum-known-verdict-2 : tie.Need-enum-known-verdict-2
 enum-known-verdict-2 c = search needs
@@ -41,15 +43,21 @@ same-length c = search needs
 
 returns : tie.Need-returns
 returns c =
+    let from-f = c .before .before .from-f in
+    let verdict = c .before .before .before .before .before .verdict in
+    let room-of = c .before .before .before .before .before .before .before .room-of in
     let s = c .before .before .before .before .before .before .before .before .before .before in
-    let e = sym (c .before .before .before .before .before .before .before .room-of .ensures) ∙ c .before .before .before .before .before .verdict .given .1 in
-    c .before .before .from-f .ensures ∙ sym (e-passes (s .args .capacity) (s .args .row) (s .args .h) (drop (s .args .at) (now (s .args .d))) (stateOf (s .args .l) (now (s .args .area))) _ e)
+    let e = sym (room-of .ensures) ∙ verdict .given .1 in
+    from-f .ensures ∙ sym (e-passes (s .args .capacity) (s .args .row) (s .args .h) (drop (s .args .at) (now (s .args .d))) (stateOf (s .args .l) (now (s .args .area))) _ e)
 
 returns-2 : tie.Need-returns-2
 returns-2 c =
+    let verdict2 = c .before .before .verdict2 in
+    let room-of = c .before .before .before .before .room-of in
     let s = c .before .before .before .before .before .before .before in
-    let e = sym (c .before .before .before .before .room-of .ensures) ∙ c .before .before .verdict2 .given .1 in
-    rw (c .failed-by .ensures) (sym (e-refuses (s .args .capacity) (s .args .row) (s .args .h) (drop (s .args .at) (now (s .args .d))) (stateOf (s .args .l) (now (s .args .area))) _ e))
+    let e = sym (room-of .ensures) ∙ verdict2 .given .1 in
+    rw (c .failed-by .ensures)
+    (sym (e-refuses (s .args .capacity) (s .args .row) (s .args .h) (drop (s .args .at) (now (s .args .d))) (stateOf (s .args .l) (now (s .args .area))) _ e))
 
 pub from-e-spec : {M : Type 1} → statement M
 from-e-spec =

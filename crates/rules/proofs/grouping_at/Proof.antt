@@ -39,15 +39,20 @@ same-length c = search needs
 
 returns : tie.Need-returns
 returns c =
+    let from-b = c .before .before .from-b in
+    let header = c .before .before .before .before .before .header in
+    let header-at = c .before .before .before .before .before .before .before .header-at in
     let s = c .before .before .before .before .before .before .before .before .before .before in
-    let e = sym (c .before .before .before .before .before .before .before .header-at .ensures) ∙ c .before .before .before .before .before .header .given .1 in
-    c .before .before .from-b .ensures ∙ sym (a-whole (s .args .capacity) (length (now (s .args .d))) (s .args .p1) (drop (s .args .at) (now (s .args .d))) (stateOf (s .args .l) (now (s .args .area))) _ e)
+    let e = sym (header-at .ensures) ∙ header .given .1 in
+    from-b .ensures ∙ sym (a-whole (s .args .capacity) (length (now (s .args .d))) (s .args .p1) (drop (s .args .at) (now (s .args .d))) (stateOf (s .args .l) (now (s .args .area))) _ e)
 
 returns-2 : tie.Need-returns-2
 returns-2 c =
+    let header-at = c .before .before .before .header-at in
     let s = c .before .before .before .before .before .before in
-    let e = sym (c .before .before .before .header-at .ensures) ∙ c .before .enum-told .given .1 in
-    rw (c .failed-by .ensures) (sym (a-torn (s .args .capacity) (length (now (s .args .d))) (s .args .p1) (drop (s .args .at) (now (s .args .d))) (stateOf (s .args .l) (now (s .args .area))) e))
+    let e = sym (header-at .ensures) ∙ c .before .enum-told .given .1 in
+    rw (c .failed-by .ensures)
+    (sym (a-torn (s .args .capacity) (length (now (s .args .d))) (s .args .p1) (drop (s .args .at) (now (s .args .d))) (stateOf (s .args .l) (now (s .args .area))) e))
 
 pub grouping-at-spec : {M : Type 1} → statement M
 grouping-at-spec =

@@ -27,8 +27,9 @@ with-open-requires c κs = search needs
 
 table-fed-requires : tie.Need-table-fed-requires
 table-fed-requires c κs =
+    let if1 = c .before .before .if1 in
     let s = c .before .before .before .before .before in
-    let r = subst (λ (x : ℕ). Ruled (stateOf (s .args .l) (now (s .args .area))) (s .args .h) x (s .args .room)) (c .before .before .if1 .taken) (s .pre .2) in
+    let r = subst (λ (x : ℕ). Ruled (stateOf (s .args .l) (now (s .args .area))) (s .args .h) x (s .args .room)) (if1 .taken) (s .pre .2) in
     rw (c .with-open .ensures) (s .pre .4, table-opens (s .args .l) (now (s .args .area)) (s .args .h) (s .args .room) (s .pre .0) (s .pre .1) r)
 
 returns : tie.Need-returns
@@ -49,8 +50,10 @@ same-length c = search needs
 returns-2 : tie.Need-returns-2
 unfolding spanned fed
 returns-2 c =
+    let record-fed = c .before .before .record-fed in
+    let if1 = c .before .before .before .before .if1 in
     let a = c .before .before .before .before .before .before .before .args in
-    c .before .before .record-fed .ensures ∙ rw (ne-eqb _ _ (c .before .before .before .before .if1 .left)) (sym (record-over (a .h .tag) 0 (a .h .len) _ (a .l) _ _))
+    record-fed .ensures ∙ rw (ne-eqb _ _ (if1 .left)) (sym (record-over (a .h .tag) 0 (a .h .len) _ (a .l) _ _))
 
 pub spanned-at-spec : {M : Type 1} → statement M
 spanned-at-spec =

@@ -29,18 +29,29 @@ not-run-requires-2 c κs = search needs
 
 returns-2 : tie.Need-returns-2
 returns-2 c =
-    run-3 _ _ _ _ (c .not-run2 .ensures) (c .before .before .before .before .if1 .left) (sym (c .before .before .before .is-sound .ensures .0) ∙ c .before .before .if2 .taken) (c .before .if3 .taken)
+    let if2 = c .before .before .if2 in
+    let is-sound = c .before .before .before .is-sound in
+    let if1 = c .before .before .before .before .if1 in
+    run-3 _ _ _ _ (c .not-run2 .ensures) (if1 .left) (sym (is-sound .ensures .0) ∙ if2 .taken) (c .before .if3 .taken)
 
 not-run-requires-3 : tie.Need-not-run-requires-3
 not-run-requires-3 c κs = search needs
 
 returns-3 : tie.Need-returns-3
 returns-3 c =
-    run-11 _ _ _ _ (c .not-run3 .ensures) (c .before .before .before .before .before .if1 .left) (sym (c .before .before .before .before .is-sound .ensures .0) ∙ c .before .before .before .if2 .taken) (c .before .before .if3 .left) (c .before .if4 .taken)
+    let if3 = c .before .before .if3 in
+    let if2 = c .before .before .before .if2 in
+    let is-sound = c .before .before .before .before .is-sound in
+    let if1 = c .before .before .before .before .before .if1 in
+    run-11 _ _ _ _ (c .not-run3 .ensures) (if1 .left) (sym (is-sound .ensures .0) ∙ if2 .taken) (if3 .left) (c .before .if4 .taken)
 
 run-all-requires : tie.Need-run-all-requires
 run-all-requires c κs =
-    (record { sound = sym (c .before .before .before .before .before .is-sound .ensures .0) ∙ c .before .before .before .before .if2 .taken; files = c .before .before .before .before .before .is-sound .ensures .1; area = c .before .before .before .before .before .before .if1 .left }, omega arith, c .before .before .if4 .left)
+    let if4 = c .before .before .if4 in
+    let if2 = c .before .before .before .before .if2 in
+    let is-sound = c .before .before .before .before .before .is-sound in
+    let if1 = c .before .before .before .before .before .before .if1 in
+    (record { sound = sym (is-sound .ensures .0) ∙ if2 .taken; files = is-sound .ensures .1; area = if1 .left }, omega arith, if4 .left)
 
 same-length : tie.Need-same-length
 same-length c = search needs
@@ -50,7 +61,13 @@ same-length-2 c = search needs
 
 returns-4 : tie.Need-returns-4
 returns-4 c =
-    run-0 _ _ _ _ (c .before .before .before .before .before .before .before .before .before .before .before .if1 .left) (sym (c .before .before .before .before .before .before .before .before .before .before .is-sound .ensures .0) ∙ c .before .before .before .before .before .before .before .before .before .if2 .taken) (c .before .before .before .before .before .before .before .before .if3 .left) (c .before .before .before .before .before .before .before .if4 .left) (c .before .before .before .before .run-all .ensures)
+    let run-all = c .before .before .before .before .run-all in
+    let if4 = c .before .before .before .before .before .before .before .if4 in
+    let if3 = c .before .before .before .before .before .before .before .before .if3 in
+    let if2 = c .before .before .before .before .before .before .before .before .before .if2 in
+    let is-sound = c .before .before .before .before .before .before .before .before .before .before .is-sound in
+    let if1 = c .before .before .before .before .before .before .before .before .before .before .before .if1 in
+    run-0 _ _ _ _ (if1 .left) (sym (is-sound .ensures .0) ∙ if2 .taken) (if3 .left) (if4 .left) (run-all .ensures)
 
 not-run-requires-4 : tie.Need-not-run-requires-4
 not-run-requires-4 c κs = search needs

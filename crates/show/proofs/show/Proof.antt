@@ -37,8 +37,13 @@ slice-aggregate-play-all-3 c = search needs
 
 play-all-requires : tie.Need-play-all-requires
 play-all-requires c κs =
-    let chip = now (c .before .before .before .before .before .before .before .before .before .before .before .args .chip) in
-    (rw (c .before .before .before .before .before .before .before .before .before .fresh .ensures, c .before .before .before .before .before .clear-area .ensures .0) (fresh-keeps chip), sym (c .before .before .before .before .block-buffer .ensures), sym (c .before .before .before .line-buffer .ensures))
+    let line-buffer = c .before .before .before .line-buffer in
+    let block-buffer = c .before .before .before .before .block-buffer in
+    let clear-area = c .before .before .before .before .before .clear-area in
+    let fresh = c .before .before .before .before .before .before .before .before .before .fresh in
+    let args = c .before .before .before .before .before .before .before .before .before .before .before .args in
+    let chip = now (args .chip) in
+    (rw (fresh .ensures, clear-area .ensures .0) (fresh-keeps chip), sym (block-buffer .ensures), sym (line-buffer .ensures))
 
 slice-aggregate-show-card : tie.Need-slice-aggregate-show-card
 slice-aggregate-show-card c = search needs

@@ -34,8 +34,12 @@ enum-known-spot c = search needs
 
 add-result : tie.Need-add-result
 add-result c =
-    let s = c .before .before .before .before .before .before .before .before .before .before .args .c in
-    omega (arith, sound-spot (s .life) (s .loading) _ _ _ _ (sym (c .before .before .before .before .before .before .before .is-sound .ensures .0) ∙ c .before .before .before .before .before .before .if2 .taken) (sym (c .before .before .before .spot-of .ensures) ∙ c .before .spot .given .1))
+    let spot-of = c .before .before .before .spot-of in
+    let if2 = c .before .before .before .before .before .before .if2 in
+    let is-sound = c .before .before .before .before .before .before .before .is-sound in
+    let args = c .before .before .before .before .before .before .before .before .before .before .args in
+    let s = args .c in
+    omega (arith, sound-spot (s .life) (s .loading) _ _ _ _ (sym (is-sound .ensures .0) ∙ if2 .taken) (sym (spot-of .ensures) ∙ c .before .spot .given .1))
 
 sub-result : tie.Need-sub-result
 sub-result c = search needs
@@ -45,12 +49,21 @@ part-result-start c = search needs
 
 part-result-end : tie.Need-part-result-end
 part-result-end c =
-    let s = c .before .before .before .before .before .before .before .before .before .before .args .c in
-    omega (arith, sound-spot (s .life) (s .loading) _ _ _ _ (sym (c .before .before .before .before .before .before .before .is-sound .ensures .0) ∙ c .before .before .before .before .before .before .if2 .taken) (sym (c .before .before .before .spot-of .ensures) ∙ c .before .spot .given .1))
+    let spot-of = c .before .before .before .spot-of in
+    let if2 = c .before .before .before .before .before .before .if2 in
+    let is-sound = c .before .before .before .before .before .before .before .is-sound in
+    let args = c .before .before .before .before .before .before .before .before .before .before .args in
+    let s = args .c in
+    omega (arith, sound-spot (s .life) (s .loading) _ _ _ _ (sym (is-sound .ensures .0) ∙ if2 .taken) (sym (spot-of .ensures) ∙ c .before .spot .given .1))
 
 returns-2 : tie.Need-returns-2
 returns-2 c =
-    part-shown _ _ _ _ _ _ (c .before .before .before .before .before .before .before .before .before .if1 .left) (sym (c .before .before .before .before .before .before .before .before .is-sound .ensures .0) ∙ c .before .before .before .before .before .before .before .if2 .taken) (sym (c .before .before .before .before .spot-of .ensures) ∙ c .before .before .spot .given .1)
+    let spot = c .before .before .spot in
+    let spot-of = c .before .before .before .before .spot-of in
+    let if2 = c .before .before .before .before .before .before .before .if2 in
+    let is-sound = c .before .before .before .before .before .before .before .before .is-sound in
+    let if1 = c .before .before .before .before .before .before .before .before .before .if1 in
+    part-shown _ _ _ _ _ _ (if1 .left) (sym (is-sound .ensures .0) ∙ if2 .taken) (sym (spot-of .ensures) ∙ spot .given .1)
 
 enum-told : tie.Need-enum-told
 enum-told c = search needs
@@ -60,7 +73,11 @@ slice-aggregate-result-2 c = search needs
 
 returns-3 : tie.Need-returns-3
 returns-3 c =
-    spot-shown _ _ _ _ _ (c .before .before .before .before .before .before .before .before .if1 .left) (sym (c .before .before .before .before .before .before .before .is-sound .ensures .0) ∙ c .before .before .before .before .before .before .if2 .taken) (sym (c .before .before .before .spot-of .ensures) ∙ c .before .enum-told .given .1)
+    let spot-of = c .before .before .before .spot-of in
+    let if2 = c .before .before .before .before .before .before .if2 in
+    let is-sound = c .before .before .before .before .before .before .before .is-sound in
+    let if1 = c .before .before .before .before .before .before .before .before .if1 in
+    spot-shown _ _ _ _ _ (if1 .left) (sym (is-sound .ensures .0) ∙ if2 .taken) (sym (spot-of .ensures) ∙ c .before .enum-told .given .1)
 
 slice-aggregate-result-3 : tie.Need-slice-aggregate-result-3
 slice-aggregate-result-3 c = search needs

@@ -57,8 +57,10 @@ same-length c = search needs
 
 returns : tie.Need-returns
 returns c =
+    let lay-record = c .before .before .before .lay-record in
+    let least = c .before .before .before .before .before .before .least in
     let s = c .before .before .before .before .before .before .before .before .before .args in
-    record-step (now (s .d)) (s .at) _ _ _ _ (s .l) _ _ _ (c .before .before .before .before .before .before .least .ensures) (c .before .before .before .lay-record .ensures) (c .record-done .ensures)
+    record-step (now (s .d)) (s .at) _ _ _ _ (s .l) _ _ _ (least .ensures) (lay-record .ensures) (c .record-done .ensures)
 
 pub record-fed-spec : {M : Type 1} → statement M
 record-fed-spec =

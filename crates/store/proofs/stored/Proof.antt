@@ -26,8 +26,10 @@ failed-by-requires c κs = search needs
 
 returns : tie.Need-returns
 returns c =
+    let if1 = c .before .before .if1 in
     let s = c .before .before .before .before .before .before .args in
-    rw (store-empty (s .p1) (now (s .d)) (s .c) (now (s .area)) (c .before .before .if1 .taken) (c .before .if2 .taken)) (errs-told 0x6700 (s .c) _ _ (c .failed-by .result) (c .failed-by .ensures))
+    rw (store-empty (s .p1) (now (s .d)) (s .c) (now (s .area)) (if1 .taken) (c .before .if2 .taken))
+    (errs-told 0x6700 (s .c) _ _ (c .failed-by .result) (c .failed-by .ensures))
 
 commanded-requires : tie.Need-commanded-requires
 commanded-requires c κs =
@@ -48,10 +50,12 @@ same-length-2 c = search needs
 
 returns-2 : tie.Need-returns-2
 returns-2 c =
+    let told-of = c .before .before .told-of in
+    let with-loading = c .before .before .before .with-loading in
     let w = c .before .before .before .before .before .before .before in
     let s = w .before .before .before .before .before .before .before .args in
     rw (store-command (s .p1) (now (s .d)) (s .c) (now (s .area)) (w .before .before .before .if1 .taken) (w .before .before .if2 .left), ← w .commanded .ensures)
-    (course-told (s .c) (w .commanded .result) _ _ _ _ _ _ _ (c .before .before .before .with-loading .ensures) (c .before .before .told-of .ensures _))
+    (course-told (s .c) (w .commanded .result) _ _ _ _ _ _ _ (with-loading .ensures) (told-of .ensures _))
 
 returns-3 : tie.Need-returns-3
 returns-3 c =

@@ -34,8 +34,11 @@ same-length-2 c = search needs
 
 returns-2 : tie.Need-returns-2
 returns-2 c =
-    let k = c .before .before .before .before .before .before .before .before .before .at-most .result in
-    omega (arith, c .before .before .put-hex .ensures .0, length-take k (now (c .before .before .before .before .before .before .before .before .before .before .before .before .before .args .bytes)))
+    let put-hex = c .before .before .put-hex in
+    let at-most = c .before .before .before .before .before .before .before .before .before .at-most in
+    let args = c .before .before .before .before .before .before .before .before .before .before .before .before .before .args in
+    let k = at-most .result in
+    omega (arith, put-hex .ensures .0, length-take k (now (args .bytes)))
 
 pub put-front-spec : {M : Type 1} → statement M
 put-front-spec =

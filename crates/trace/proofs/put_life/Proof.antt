@@ -22,7 +22,8 @@ slice-aggregate-put-front c = search needs
 
 put-front-requires : tie.Need-put-front-requires
 put-front-requires c κs =
-    let e : length (c .before .before .before .before .before .before .before .before .before .before .before .before .before .before .before .before .before .args .life .name) ≡ 16 = search needs in
+    let args = c .before .before .before .before .before .before .before .before .before .before .before .before .before .before .before .before .before .args in
+    let e : length (args .life .name) ≡ 16 = search needs in
     omega arith
 
 same-length : tie.Need-same-length
@@ -30,7 +31,8 @@ same-length c = search needs
 
 returns : tie.Need-returns
 returns c =
-    let e : length (c .before .before .before .before .before .before .before .before .before .before .before .before .before .before .before .before .before .before .before .before .args .life .name) ≡ 16 = search needs in
+    let args = c .before .before .before .before .before .before .before .before .before .before .before .before .before .before .before .before .before .before .before .before .args in
+    let e : length (args .life .name) ≡ 16 = search needs in
     omega arith
 
 pub put-life-spec : {M : Type 1} → statement M

@@ -37,8 +37,13 @@ slice-aggregate-trace-blocks-3 c = search needs
 
 trace-blocks-requires : tie.Need-trace-blocks-requires
 trace-blocks-requires c κs =
-    let chip = now (c .before .before .before .before .before .before .before .before .before .before .before .args .chip) in
-    (rw (c .before .before .before .before .before .before .before .before .before .fresh .ensures, c .before .before .before .before .before .clear-area .ensures .0) (fresh-keeps chip), sym (c .before .before .before .before .block-buffer .ensures), sym (c .before .before .before .line-buffer .ensures))
+    let line-buffer = c .before .before .before .line-buffer in
+    let block-buffer = c .before .before .before .before .block-buffer in
+    let clear-area = c .before .before .before .before .before .clear-area in
+    let fresh = c .before .before .before .before .before .before .before .before .before .fresh in
+    let args = c .before .before .before .before .before .before .before .before .before .before .before .args in
+    let chip = now (args .chip) in
+    (rw (fresh .ensures, clear-area .ensures .0) (fresh-keeps chip), sym (block-buffer .ensures), sym (line-buffer .ensures))
 
 slice-aggregate-show-area : tie.Need-slice-aggregate-show-area
 slice-aggregate-show-area c = search needs

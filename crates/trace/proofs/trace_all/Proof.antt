@@ -44,17 +44,23 @@ trace-one-requires c κs =
 
 add-i : tie.Need-add-i Inv-loop μ-loop
 add-i c =
-    let f : c .before .before .before .before .before .before .before .before .before .before .before .before .loop .i < length (now (c .before .before .before .before .before .before .before .before .before .before .before .before .before .before .before .before .args .records)) = omega (arith, c .before .before .before .before .before .before .before .before .before .before .before .loop-test .taken) in
-    omega (arith, c .before .before .before .before .before .before .before .before .before .before .before .before .before .before .before .before .good .1 .1 .0)
+    let loop-test = c .before .before .before .before .before .before .before .before .before .before .before .loop-test in
+    let loop = c .before .before .before .before .before .before .before .before .before .before .before .before .loop in
+    let args = c .before .before .before .before .before .before .before .before .before .before .before .before .before .before .before .before .args in
+    let good = c .before .before .before .before .before .before .before .before .before .before .before .before .before .before .before .before .good in
+    let f : loop .i < length (now (args .records)) = omega (arith, loop-test .taken) in
+    omega (arith, good .1 .1 .0)
 
 loop-less : tie.Need-loop-less Inv-loop μ-loop
 loop-less c = search needs
 
 loop-again : tie.Need-loop-again Inv-loop μ-loop
 loop-again c =
+    let loop-test = c .before .before .before .before .before .before .before .before .before .before .before .loop-test in
+    let args = c .before .before .before .before .before .before .before .before .before .before .before .before .before .before .before .before .args in
     let l = c .before .before .before .before .before .before .before .before .before .before .before .before .loop in
     let t = c .before .before .before .before .before .before .trace-one in
-    let on : l .i + 1 ≤ length (now (c .before .before .before .before .before .before .before .before .before .before .before .before .before .before .before .before .args .records)) / 260 = omega (arith, c .before .before .before .before .before .before .before .before .before .before .before .loop-test .taken) in
+    let on : l .i + 1 ≤ length (now (args .records)) / 260 = omega (arith, loop-test .taken) in
     let far : t .result .end ≤ (l .i + 1) * 2200 = omega (arith, t .ensures .1, l .inv .5) in
     (t .ensures .0, t .kept .1 .0 ∙ l .inv .1, t .kept .1 .1 .1 .1 .0 ∙ l .inv .2, t .kept .1 .1 .0 ∙ l .inv .3, on, far)
 

@@ -21,9 +21,12 @@ same-length-3 c = search needs
 
 returns : tie.Need-returns
 returns c =
+    let put-line = c .before .before .put-line in
+    let turn = c .before .before .before .before .before .before .before .before .before .before .before .turn in
+    let pre = c .before .before .before .before .before .before .before .before .before .before .before .before .before .before .before .before .before .before .pre in
     let a = c .before .before .before .before .before .before .before .before .before .before .before .before .before .before .before .before .before .before .args in
-    let p = c .before .before .before .before .before .before .before .before .before .before .before .turn .ensures in
-    (rw (p .leaves, p .keeps) (turn-keeps (a .c) (now (a .area)) (now (a .r)) (c .before .before .before .before .before .before .before .before .before .before .before .before .before .before .before .before .before .before .pre .0)), c .before .before .put-line .ensures)
+    let p = turn .ensures in
+    (rw (p .leaves, p .keeps) (turn-keeps (a .c) (now (a .area)) (now (a .r)) (pre .0)), put-line .ensures)
 
 pub trace-one-spec : {M : Type 1} → statement M
 trace-one-spec =

@@ -51,10 +51,11 @@ same-length-2 c = search needs
 
 returns : tie.Need-returns
 returns c =
+    let lived-on = c .before .before .before .before .lived-on in
     let s = c .before .before .before .before .before .before .before .before .before .before .before .before .before .before .before in
     let w = c .before .before .before .before .before .before .before .before .before .before .wide in
     let k : 4 + w .result - 4 ≡ w .result = omega arith in
-    rw (brief-turn (s .args .c) (now (s .args .area)) (now (s .args .r)) (s .pre .3), ← w .ensures .0) (plays (rw k at (c .before .before .before .before .lived-on .ensures)))
+    rw (brief-turn (s .args .c) (now (s .args .area)) (now (s .args .r)) (s .pre .3), ← w .ensures .0) (plays (rw k at (lived-on .ensures)))
 
 pub lived-spec : {M : Type 1} → statement M
 lived-spec =

@@ -19,7 +19,11 @@ is-brief-requires : tie.Need-is-brief-requires
 is-brief-requires c κs = search needs
 
 lived-requires : tie.Need-lived-requires
-lived-requires c κs = let p = c .before .before .before .before .before .before .before .pre in (p .0, p .1, p .2, sym (c .before .before .before .is-brief .ensures) ∙ c .before .before .if1 .taken)
+lived-requires c κs =
+    let if1 = c .before .before .if1 in
+    let is-brief = c .before .before .before .is-brief in
+    let pre = c .before .before .before .before .before .before .before .pre in
+    let p = pre in (p .0, p .1, p .2, sym (is-brief .ensures) ∙ if1 .taken)
 
 with-life-requires : tie.Need-with-life-requires
 with-life-requires c κs = search needs
@@ -34,7 +38,11 @@ returns : tie.Need-returns
 returns c = rw (c .with-life .ensures) (c .before .before .before .before .before .lived .ensures)
 
 loaded-requires : tie.Need-loaded-requires
-loaded-requires c κs = let p = c .before .before .before .before .before .before .before .pre in (p .0, p .1, p .2, sym (c .before .before .before .is-brief .ensures) ∙ c .before .before .if1 .left)
+loaded-requires c κs =
+    let if1 = c .before .before .if1 in
+    let is-brief = c .before .before .before .is-brief in
+    let pre = c .before .before .before .before .before .before .before .pre in
+    let p = pre in (p .0, p .1, p .2, sym (is-brief .ensures) ∙ if1 .left)
 
 same-length-3 : tie.Need-same-length-3
 same-length-3 c = search needs

@@ -22,9 +22,13 @@ same-length c = search needs
 
 returns : tie.Need-returns
 returns c =
+    let write-for = c .before .before .write-for in
+    let chip-of = c .before .before .before .before .chip-of in
+    let if1 = c .before .before .before .before .before .if1 in
+    let is-chip = c .before .before .before .before .before .before .is-chip in
     let s = c .before .before .before .before .before .before .before .before .before .before .args in
-    let e = sym (c .before .before .before .before .before .before .is-chip .ensures) ∙ c .before .before .before .before .before .if1 .taken in
-    rw (has-form (now (s .order)) (length (now (s .room))) (now (s .chip)) e, ← c .before .before .before .before .chip-of .ensures) (c .before .before .write-for .ensures)
+    let e = sym (is-chip .ensures) ∙ if1 .taken in
+    rw (has-form (now (s .order)) (length (now (s .room))) (now (s .chip)) e, ← chip-of .ensures) (write-for .ensures)
 
 refused-by-requires : tie.Need-refused-by-requires
 refused-by-requires c κs = search needs
