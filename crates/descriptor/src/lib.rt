@@ -1,35 +1,15 @@
-// One descriptor of the file table: decoded, its fields judged, its size, and beside another one.
+// One descriptor of the file table: its fields judged, and beside another one.
 use model::Descriptor;
 ghost use mathlib.Core.Path.{_≡_};
 ghost use Prim.Native.Nat.{_-_, _<_};
 ghost use Rattle.descriptor.specs.Fields.{efFields};
-ghost use Rattle.model.specs.Table.{descriptorOf, dfOk, efType, clash, counterIn};
+ghost use Rattle.model.specs.Table.{dfOk, efType, clash, counterIn};
 
 const BINARY: u8 = 0x01;
 
 const SIMULATED: u8 = 0x08;
 
 const COUNTERS: u8 = 0x09;
-
-// The descriptor that 18 bytes are.
-pub fn descriptor_of(b: [u8; 18]) -> Descriptor
-    ensures { λ r. ⌜ r ≡ descriptorOf b ⌝ }
-{
-    let lid = bytes::word(b[0], b[1]);
-    Descriptor {
-        lid: lid,
-        sfi: b[2],
-        filetype: b[3],
-        eftype: b[4],
-        recsize: b[5],
-        numrec: b[6],
-        ac: [b[7], b[8], b[9], b[10]],
-        nkey: [b[11], b[12], b[13], b[14]],
-        refsfi: b[15],
-        refnum: b[16],
-        status: b[17],
-    }
-}
 
 pub fn df_ok(d: Descriptor) -> bool
     ensures { λ r. ⌜ r ≡ dfOk d ⌝ }

@@ -37,7 +37,7 @@ fn last_byte(l: Loading, missing: usize, b: u8) -> Taken
 {
     let mut bytes = l.held;
     bytes[17] = b;
-    let d = descriptor::descriptor_of(bytes);
+    let d = decoded::descriptor_of(bytes);
     let files = l.files;
     let verdict = table::admit(d, files, l.count);
     match verdict {
@@ -207,6 +207,6 @@ pub fn fed_first(l: Loading, area: &mut [u8], d: &[u8]) -> Step
             tag,
             written,
             missing,
-        } => steps::record_fed(l, area, d, 0, tag, written, missing),
+        } => laying::record_fed(l, area, d, 0, tag, written, missing),
     }
 }

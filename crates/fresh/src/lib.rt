@@ -62,7 +62,7 @@ pub fn fresh_loading() -> Loading
 }
 
 // The fresh card of a chip: absent, and all else zero.
-pub fn fresh_card(chip: Chip) -> Card
+fn fresh_card(chip: Chip) -> Card
     ensures { λ r. ⌜ r ≡ freshCard chip ⌝ }
 {
     let life = Life {

@@ -2,12 +2,21 @@
 use model::Head;
 use model::Header;
 ghost use mathlib.Core.Path.{_≡_};
-ghost use lib.ListN.{drop};
+ghost use Prim.Native.Nat.{_+_, _≤_};
+ghost use lib.ListN.{length, drop};
+ghost use Rattle.lists.specs.Bytes.{wordAt};
 ghost use Rattle.model.specs.Header.{headerOf};
 
 const SHORT_SIZE: usize = 3;
 
 const LONG_SIZE: usize = 5;
+
+fn word_at(s: &[u8], at: usize) -> u16
+    requires { ⌜ at + 2 ≤ length (now s) ⌝ }
+    ensures { λ r. ⌜ r ≡ wordAt (now (s .entry)) at ⌝ }
+{
+    bytes::word(s[at], s[at + 1])
+}
 
 // The header that the bytes from `at` on begin with.
 pub fn header_at(s: &[u8], at: usize) -> Header
@@ -20,7 +29,7 @@ pub fn header_at(s: &[u8], at: usize) -> Header
     if left < SHORT_SIZE {
         return Header::Torn;
     }
-    let tag = bytes::word_at(s, at);
+    let tag = word_at(s, at);
     let short = bytes::wide(s[at + 2]);
     if short != 0xFF {
         return Header::Whole(Head {
@@ -32,7 +41,7 @@ pub fn header_at(s: &[u8], at: usize) -> Header
     if left < LONG_SIZE {
         return Header::Torn;
     }
-    let long = bytes::word_at(s, at + 3);
+    let long = word_at(s, at + 3);
     if long == 0xFFFF {
         return Header::Torn;
     }

@@ -6,7 +6,12 @@ use mathlib.Core.List.{List}
 use lib.Dec.{eqb}
 use Rattle.lists.specs.Bytes.{byteAt}
 use Rattle.model.specs.declared.Card.{Card}
-use Rattle.model.specs.Stored.{isKind, paddedZero}
+use Rattle.model.specs.Stored.{Event, isKind, paddedZero}
+use Rattle.model.specs.Events.{says, storeData}
+
+-- an event as the code has it
+abbrev pub eventOf : ℕ → ℕ → List ℕ → Event
+eventOf k p b = record { kind = k; p1 = p; bytes = b }
 
 unfoldable pub brief : Bool → Bool → Bool → Bool
 brief in5A stores selected = not in5A && not (stores && selected)
@@ -46,3 +51,8 @@ module _ (kind : ℕ) (c : Card) where
 
   pub loads-data : isBrief kind c ≡ false → eqb (c .loading .internal) 0x5A ≡ false → eqb kind 2 ≡ true
   loads-data e f = loads (eqb (c .loading .internal) 0x5A) (eqb kind 2) (c .life .selected) e f
+
+-- STORE DATA on a card that is not selected
+pub store-unselected : (p1 : ℕ) (d : List ℕ) (c : Card) (a : List ℕ) → c .life .selected ≡ false → storeData p1 d c a ≡ says 0x6985 c a
+unfolding storeData
+store-unselected p1 d c a e = rw e

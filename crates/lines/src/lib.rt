@@ -1,16 +1,13 @@
 // The characters that the programs print, written straight into lent memory, a field at a time.
 use sets::count;
-use slices::put_bytes;
 ghost use mathlib.Core.Path.{_≡_};
 ghost use mathlib.Core.List.{[], _∷_, _++_};
 ghost use Prim.Native.Nat.{_+_, _≤_, _<_, min};
 ghost use lib.ListN.{length};
 ghost use Rattle.lists.specs.Over.{overwrite};
-ghost use Rattle.model.specs.Lines.{lineWith, endOf, five, two, hex2, hex4, blank};
+ghost use Rattle.model.specs.Lines.{lineWith, five, two, hex2, hex4, blank};
 
 pub const LINE_SIZE: usize = 26;
-
-pub const END_SIZE: usize = 10;
 
 const BLANK: u8 = 0x20;
 
@@ -71,14 +68,4 @@ pub fn put_line(
     put_states(out, at + 12, word, gp, internal);
     digits::put_two(out, at + 23, count(rows));
     out[at + 25] = LINE_FEED;
-}
-
-// The last line: END and the number of events.
-pub fn put_end(out: &mut [u8], at: usize, n: u64)
-    requires { ⌜ at + 10 ≤ length (now out) ⌝ }
-    ensures { λ _. ⌜ now (out .exit) ≡ overwrite (now (out .entry)) at (endOf n) ⌝ }
-{
-    put_bytes(out, at, b"END ");
-    digits::put_five(out, at + 4, n);
-    out[at + 9] = LINE_FEED;
 }

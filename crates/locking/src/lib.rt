@@ -1,34 +1,16 @@
 // Locking, and an error of a command: in '5A' it locks.
 use model::Card;
-use model::Life;
-use model::Loading;
 use model::Open;
 ghost use mathlib.Core.Path.{_≡_};
 ghost use mathlib.Core.List.{List};
 ghost use Prim.Native.Nat.{ℕ};
-ghost use Rattle.model.specs.Events.{says, withLife, withLoading, locked, errs};
+ghost use Rattle.model.specs.Events.{says, locked, errs};
 
 // The word of an event, the number of its answer bytes, and the card after it.
 pub struct Told {
     pub word: u16,
     pub answered: usize,
     pub card: Card,
-}
-
-pub fn with_life(c: Card, life: Life) -> Card
-    ensures { λ r. ⌜ r ≡ withLife life c ⌝ }
-{
-    let mut next = c;
-    next.life = life;
-    next
-}
-
-pub fn with_loading(c: Card, load: Loading) -> Card
-    ensures { λ r. ⌜ r ≡ withLoading load c ⌝ }
-{
-    let mut next = c;
-    next.loading = load;
-    next
 }
 
 // Locking: '87', not selected, an open value dropped.
@@ -41,7 +23,10 @@ pub fn locked_now(c: Card) -> Card
     let load = c.loading;
     let none = [0u8; 18];
     let shut = steps::with_open(load, Open::Shut, none);
-    with_loading(with_life(c, life), shut)
+    let mut next = c;
+    next.life = life;
+    next.loading = shut;
+    next
 }
 
 // An error of a command: in '5A' it locks.

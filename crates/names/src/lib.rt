@@ -3,7 +3,7 @@ use model::Life;
 ghost use mathlib.Core.Path.{_≡_};
 ghost use Prim.Native.Nat.{_+_, _≤_, _<_};
 ghost use lib.ListN.{length, take, drop};
-ghost use Rattle.lists.specs.Bytes.{same};
+ghost use Rattle.lists.specs.Bytes.{byteAt, same};
 ghost use Rattle.model.specs.Events.{namesIn, nameLength, installForm, selectableForm};
 ghost use Rattle.names.specs.Places.{placesIn};
 
@@ -18,12 +18,22 @@ pub struct Places {
     pub tail: usize,
 }
 
+// The byte at a place; 0 past the end.
+fn byte_at(s: &[u8], i: usize) -> u8
+    ensures { λ r. ⌜ r ≡ byteAt (now (s .entry)) i ⌝ }
+{
+    if i < s.len() {
+        return s[i];
+    }
+    0 // past the end
+}
+
 pub fn places_in(d: &[u8]) -> Places
     ensures { λ r. ⌜ (r ≡ placesIn (now (d .entry))) × (r .tail ≤ 768) × (r .name ≤ r .tail) ⌝ }
 {
-    let first = bytes::wide(bytes::byte_at(d, 0));
-    let second = bytes::wide(bytes::byte_at(d, 1 + first));
-    let third = bytes::wide(bytes::byte_at(d, 2 + first + second));
+    let first = bytes::wide(byte_at(d, 0));
+    let second = bytes::wide(byte_at(d, 1 + first));
+    let third = bytes::wide(byte_at(d, 2 + first + second));
     let name = 3 + first + second;
     Places {
         first: first,
@@ -32,6 +42,23 @@ pub fn places_in(d: &[u8]) -> Places
         name: name,
         tail: name + third,
     }
+}
+
+// The same bytes, and as many.
+fn same_bytes(a: &[u8], b: &[u8]) -> bool
+    ensures { λ r. ⌜ r ≡ same (now (a .entry)) (now (b .entry)) ⌝ }
+{
+    if a.len() != b.len() {
+        return false;
+    }
+    let mut i: usize = 0;
+    while i < a.len() {
+        if a[i] != b[i] {
+            return false;
+        }
+        i += 1;
+    }
+    true
 }
 
 fn name_length(n: usize) -> bool
@@ -51,7 +78,7 @@ fn tail_is(d: &[u8], at: usize, fixed: &[u8]) -> bool
     if d.len() < at {
         return false;
     }
-    bytes::same_bytes(&d[at..], fixed)
+    same_bytes(&d[at..], fixed)
 }
 
 // '04' and '0C': three names, and their tail.
@@ -93,5 +120,5 @@ pub fn is_named(life: Life, n: &[u8]) -> bool
 {
     let name = life.name;
     let len = life.namelen;
-    bytes::same_bytes(n, &name[..len])
+    same_bytes(n, &name[..len])
 }

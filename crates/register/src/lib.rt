@@ -40,7 +40,7 @@ pub fn enter_all(c: Card, area: &mut [u8], records: &[u8], count: u64, out: &mut
         let mut number: u8 = 0;
         let mut word: u16 = 0x0000;
         if kinds::is_brief(card, r) {
-            let x = turns::lived(card, area, &mut answer, r);
+            let x = brief::lived(card, area, &mut answer, r);
             word = x.word;
             let life = x.life;
             card.life = life;

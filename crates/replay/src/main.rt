@@ -95,6 +95,6 @@ fn main() {
     let got = io::read_full(STDIN_FILENO, &mut chip);
     let count = replayed(&chip[..got]);
     let mut end = [0u8; 10];
-    lines::put_end(&mut end, 0, count);
+    ending::put_end(&mut end, 0, count);
     io::write_all(STDOUT_FILENO, &end);
 }

@@ -7,7 +7,7 @@ use Rattle.model.specs.declared.Played.{Played}
 use Rattle.model.specs.declared.Ran.{Ran}
 use Rattle.model.specs.Rows.{takenOf}
 use Rattle.model.specs.Session.{Turn, Session, Shown}
-use Rattle.turns.specs.Plays.{Plays}
+use Rattle.brief.specs.Plays.{Plays}
 use Rattle.session.specs.Runs.{Runs}
 use Rattle.showing.specs.Shows.{Shows}
 

@@ -248,7 +248,7 @@ fn put_internal(out: &mut [u8], at: usize, internal: u8) -> usize {
 // The number of events by its last five digits: those of the register's last line, behind its END.
 fn put_events(out: &mut [u8], at: usize, count: u64) -> usize {
     let mut end = [0u8; 10];
-    lines::put_end(&mut end, 0, count);
+    ending::put_end(&mut end, 0, count);
     let label = put(out, at, b"\n  events          ");
     put(out, label, &end[4..9])
 }

@@ -54,7 +54,3 @@ module _ (p1 : ℕ) (d : List ℕ) (c : Card) (a : List ℕ) where
   pub store-command : c .life .selected ≡ true → (length d ≡ 0 → ⊥) → storeData p1 d c a ≡ commanded c (command (c .chip .capacity) p1 d (stateOf (c .loading) a))
   unfolding storeData chosen
   store-command e f = ap chosen e ∙ rw (ne-eqb (length d) 0 f)
-
-  pub store-unselected : c .life .selected ≡ false → storeData p1 d c a ≡ says 0x6985 c a
-  unfolding storeData chosen
-  store-unselected e = ap chosen e

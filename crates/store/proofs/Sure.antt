@@ -1,22 +1,17 @@
 -- What a call knows of a sound card.
-use Prim.Native.Nat.{ℕ, _≤_}
+use Prim.Native.Nat.{ℕ}
 use mathlib.Core.Path.{_≡_, refl, ap, sym, _∙_, subst}
-use mathlib.Core.Bool.{Bool, true, false, cond, not, _&&_, _||_, false≢true}
+use mathlib.Core.Bool.{Bool, true, false, cond, not, _||_, false≢true}
 use mathlib.Core.List.{List}
-use native.Mathlib.Omega.{arith}
-use lib.Dec.{eqb, leb}
-use borrow.Author.Tests.{eqb-true, leb-true}
+use lib.Dec.{eqb}
+use borrow.Author.Tests.{eqb-true}
 use Rattle.model.specs.declared.Card.{Card}
 use Rattle.model.specs.Stored.{areaSize}
 use Rattle.model.specs.Sound.{selectedOk, internalOk, tablePlaced, openOk}
 use Rattle.soundness.specs.Keeps.{Good}
 use Rattle.soundness.proofs.Parts.{sound-parts, sound-of-parts}
-use Rattle.soundness.proofs.Tests.{and-r, or-r}
+use Rattle.soundness.proofs.Tests.{or-r}
 use Rattle.steps.specs.Steps.{activeLife, Sure}
-
-name-most : (b : Bool) (n : ℕ) → cond b (eqb n 0) (leb 5 n && leb n 16) ≡ true → n ≤ 16
-name-most true n e = let z : n ≡ 0 = eqb-true n 0 e in omega arith
-name-most false n e = leb-true n 16 (and-r (leb 5 n) (leb n 16) e)
 
 -- a selected card is at '07'
 selected-gp : (b v : Bool) → cond b (true || v) (not true) ≡ true → b ≡ true
@@ -24,9 +19,6 @@ selected-gp true v e = refl
 selected-gp false v e = absurd (false≢true e)
 
 module _ (c : Card) (a : List ℕ) (k : Good areaSize c a) where
-  pub good-name : c .life .namelen ≤ 16
-  good-name = name-most (eqb (c .life .gp) 0x00) (c .life .namelen) (sound-parts (c .life) (c .loading) (k .sound) .name)
-
   -- what a command may count on
   pub good-sure : c .life .selected ≡ true → Sure (c .loading) a
   good-sure e =

@@ -1,14 +1,10 @@
--- An event as the code has it, and how a command ends.
+-- How a command ends.
 use Prim.Native.Nat.{ℕ}
 use mathlib.Core.List.{List}
 use Rattle.model.specs.declared.Card.{Card}
-use Rattle.model.specs.Stored.{Event}
 use Rattle.model.specs.Events.{Reply, says, gives, answerTo, errs}
 use Rattle.steps.specs.declared.Course.{Course}
 use Rattle.steps.specs.declared.Course.the-variants.{Went, Asked, Failed}
-
-abbrev pub eventOf : ℕ → ℕ → List ℕ → Event
-eventOf k p b = record { kind = k; p1 = p; bytes = b }
 
 -- a command's end, on the card that has its loading part already: '9000', a query's answer, or an error
 abbrev pub commandedAs : Card → Course → List ℕ → Reply

@@ -76,7 +76,10 @@ pub fn stored(c: Card, area: &mut [u8], answer: &mut [u8], p1: u8, d: &[u8]) -> 
         }
         let s = load::commanded(c.loading, area, c.chip.capacity, p1, d);
         let course = s.course;
-        return told_of(answer, locking::with_loading(c, s.load), course);
+        let load = s.load;
+        let mut card = c;
+        card.loading = load;
+        return told_of(answer, card, course);
     }
     Told {
         word: 0x6985,

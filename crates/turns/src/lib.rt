@@ -1,29 +1,80 @@
-// One record on a sound card: numbers 4 and 5, else the event.
+// One record on a sound card: numbers 4 and 5, else the event. `brief` has the events that change the life at most.
+use locking::Told;
 use model::Card;
 use model::Played;
-use select::Replied;
 ghost use mathlib.Core.Path.{_≡_};
-ghost use mathlib.Core.Bool.{true, false};
-ghost use Prim.Native.Nat.{_+_, _≤_, _<_};
+ghost use mathlib.Core.Bool.{false};
+ghost use mathlib.Core.List.{List};
+ghost use Prim.Native.Nat.{ℕ, _≤_};
 ghost use lib.ListN.{length};
 ghost use Rattle.model.specs.Stored.{areaSize};
+ghost use Rattle.model.specs.Events.{stuck, event};
 ghost use Rattle.model.specs.Session.{turnOf};
 ghost use Rattle.soundness.specs.Keeps.{Good};
-ghost use Rattle.kinds.specs.Brief.{briefTurn};
-ghost use Rattle.turns.specs.Plays.{Plays, livedAs};
+ghost use Rattle.fci.specs.Answers.{Answers};
+ghost use Rattle.kinds.specs.Brief.{eventOf, isBrief, briefTurn};
+ghost use Rattle.brief.specs.Plays.{Plays};
 
 const DATA_PLACE: usize = 4;
 
-// Such a record's turn: no number, and of the card the life.
-pub fn lived(c: Card, area: &mut [u8], answer: &mut [u8], r: &[u8]) -> Replied
-    requires { ⌜ Good areaSize c (now area) × (64 ≤ length (now answer)) × (length (now r) ≡ 260) × (briefTurn c (now r) ≡ true) ⌝ }
-    ensures { λ x. ⌜ Plays (turnOf c (now (area .entry)) (now (r .entry))) (livedAs c x) (now (area .exit)) (now (answer .entry)) (now (answer .exit)) ⌝ }
+// The replies in '5A' of a card that is locked, or was just locked.
+fn stuck_by(c: Card, answer: &mut [u8], kind: u8, d: &[u8]) -> Told
+    requires { ⌜ (64 ≤ length (now answer)) × (c .life .namelen ≤ 16) ⌝ }
+    ensures { λ r. ⌜ ((p : ℕ) (a : List ℕ) → Answers (stuck (eventOf kind p (now (d .entry))) c a) (r .word) (r .answered) (r .card) a (now (answer .entry)) (now (answer .exit))) ⌝ }
 {
-    let end = DATA_PLACE + bytes::wide(r[3]);
-    events::lived_on(c, area, answer, r[0], r[1], &r[DATA_PLACE..end])
+    if kind == 3 {
+        if names::is_named(c.life, d) {
+            return Told {
+                word: 0x6283,
+                answered: fci::lay_name_fci(answer, c),
+                card: c,
+            };
+        }
+        return Told {
+            word: 0x6A82,
+            answered: 0,
+            card: c,
+        };
+    }
+    if kind == 5 {
+        return Told {
+            word: 0x0000,
+            answered: 0,
+            card: c,
+        };
+    }
+    if kind == 6 {
+        return Told {
+            word: 0x0000,
+            answered: 0,
+            card: c,
+        };
+    }
+    Told {
+        word: 0x6985,
+        answered: 0,
+        card: c,
+    }
 }
 
-// Any other record's: numbers 4 and 5, else the event.
+// Any other event: whatever comes in '5A', and STORE DATA.
+fn loaded_on(c: Card, area: &mut [u8], answer: &mut [u8], kind: u8, p1: u8, d: &[u8]) -> Told
+    requires { ⌜ Good areaSize c (now area) × (64 ≤ length (now answer)) × (isBrief kind c ≡ false) ⌝ }
+    ensures { λ r. ⌜ Answers (event (eventOf kind p1 (now (d .entry))) c (now (area .entry))) (r .word) (r .answered) (r .card) (now (area .exit)) (now (answer .entry)) (now (answer .exit)) ⌝ }
+{
+    if c.loading.internal == 0x5A {
+        if c.life.gp != 0x07 {
+            return stuck_by(c, answer, kind, d);
+        }
+        // '5A' at '07': each kind but 2 locks
+        if kind != 2 {
+            return stuck_by(locking::locked_now(c), answer, kind, d);
+        }
+    }
+    store::stored(c, area, answer, p1, d)
+}
+
+// The turn of any other record: numbers 4 and 5, else the event.
 pub fn loaded(c: Card, area: &mut [u8], answer: &mut [u8], r: &[u8]) -> Played
     requires { ⌜ Good areaSize c (now area) × (64 ≤ length (now answer)) × (length (now r) ≡ 260) × (briefTurn c (now r) ≡ false) ⌝ }
     ensures { λ x. ⌜ Plays (turnOf c (now (area .entry)) (now (r .entry))) x (now (area .exit)) (now (answer .entry)) (now (answer .exit)) ⌝ }
@@ -32,7 +83,7 @@ pub fn loaded(c: Card, area: &mut [u8], answer: &mut [u8], r: &[u8]) -> Played
     if kinds::is_kind(kind) {
         let end = DATA_PLACE + bytes::wide(r[3]);
         if bytes::zero_from(r, end) {
-            let x = events::loaded_on(c, area, answer, kind, r[1], &r[DATA_PLACE..end]);
+            let x = loaded_on(c, area, answer, kind, r[1], &r[DATA_PLACE..end]);
             let after = x.card;
             return Played {
                 number: 0,
@@ -52,12 +103,15 @@ pub fn turn(c: Card, area: &mut [u8], answer: &mut [u8], r: &[u8]) -> Played
     ensures { λ x. ⌜ Plays (turnOf c (now (area .entry)) (now (r .entry))) x (now (area .exit)) (now (answer .entry)) (now (answer .exit)) ⌝ }
 {
     if kinds::is_brief(c, r) {
-        let told = lived(c, area, answer, r);
+        let told = brief::lived(c, area, answer, r);
+        let life = told.life;
+        let mut card = c;
+        card.life = life;
         return Played {
             number: 0,
             word: told.word,
             answered: told.answered,
-            card: locking::with_life(c, told.life),
+            card: card,
         };
     }
     loaded(c, area, answer, r)

@@ -14,7 +14,7 @@ use Rattle.feed.proofs.fed_first.Statement.{statement}
 use Rattle.feed.proofs.fed_first.Tie as tie
 use Rattle.feed.proofs.fed_first.Reads as reads
 use Rattle.feed.proofs.fed_first.Lts as lts
-use Rattle.steps.proofs.record_fed.Reads as record-fed-reads
+use Rattle.laying.proofs.record_fed.Reads as record-fed-reads
 use Rattle.feed.proofs.table_fed.Reads as table-fed-reads
 
 enum-told : tie.Need-enum-told

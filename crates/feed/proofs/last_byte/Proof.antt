@@ -16,7 +16,7 @@ use Rattle.feed.proofs.last_byte.Lts as lts
 use Rattle.feed.proofs.table_done.Reads as table-done-reads
 use Rattle.feed.proofs.with_file.Reads as with-file-reads
 use Rattle.table.proofs.admit.Reads as admit-reads
-use Rattle.descriptor.proofs.descriptor_of.Reads as descriptor-of-reads
+use Rattle.decoded.proofs.descriptor_of.Reads as descriptor-of-reads
 
 array-write-bytes : tie.Need-array-write-bytes
 array-write-bytes c = search needs

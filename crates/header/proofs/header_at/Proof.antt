@@ -12,7 +12,7 @@ use Rattle.header.proofs.header_at.Tie as tie
 use Rattle.header.proofs.header_at.Reads as reads
 use Rattle.header.proofs.header_at.Lts as lts
 use Rattle.bytes.proofs.wide.Reads as wide-reads
-use Rattle.bytes.proofs.word_at.Reads as word-at-reads
+use Rattle.header.proofs.word_at.Reads as word-at-reads
 
 returns : tie.Need-returns
 returns c =

@@ -5,15 +5,8 @@ use Rattle.locking.proofs.locked_now.Tie as tie
 with-open-requires : tie.Need-with-open-requires
 with-open-requires c κs = search needs
 
-with-life-requires : tie.Need-with-life-requires
-with-life-requires c κs = search needs
-
-with-loading-requires : tie.Need-with-loading-requires
-with-loading-requires c κs = search needs
-
 returns : tie.Need-returns
-returns c = rw (c .with-loading .ensures, c .before .with-life .ensures, c .before .before .with-open .ensures)
+returns c = rw (c .with-open .ensures)
 
 pub locked-now-spec : {M : Type 1} → statement M
-locked-now-spec =
-    tie.close (tie.spec with-open-requires with-life-requires with-loading-requires returns)
+locked-now-spec = tie.close (tie.spec with-open-requires returns)

@@ -17,7 +17,7 @@ use Rattle.register.proofs.enter_all.Reads as reads
 use Rattle.register.proofs.enter_all.Lts as lts
 use Rattle.lines.proofs.put_line.Reads as put-line-reads
 use Rattle.kinds.proofs.is_brief.Reads as is-brief-reads
-use Rattle.turns.proofs.lived.Reads as lived-reads
+use Rattle.brief.proofs.lived.Reads as lived-reads
 use Rattle.turns.proofs.loaded.Reads as loaded-reads
 
 abbrev Inv-loop : tie.InvT-loop

@@ -6,7 +6,7 @@ use native.Mathlib.Numerals.{add-one}
 use lib.ListN.{length, take, drop, set, getD, length-set, length-take, length-drop, length-append}
 use denote.Ref.{now}
 use borrow.Author.Needs.{needs}
-use Rattle.rules.proofs.Openings.{sure-personal}
+use Rattle.values.proofs.Openings.{sure-personal}
 use Rattle.steps.specs.Steps.{stateOf}
 use Rattle.records.proofs.Chains.{c-refuses, c-moves}
 use Rattle.rules.proofs.from_c.Statement.{statement}

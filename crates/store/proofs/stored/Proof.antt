@@ -6,7 +6,8 @@ use native.Mathlib.Numerals.{add-one}
 use lib.ListN.{length, take, drop, set, getD, length-set, length-take, length-drop, length-append}
 use denote.Ref.{now}
 use borrow.Author.Needs.{needs}
-use Rattle.store.proofs.Replies.{store-empty, store-command, store-unselected}
+use Rattle.store.proofs.Replies.{store-empty, store-command}
+use Rattle.kinds.specs.Brief.{store-unselected}
 use borrow.Author.Tests.{eq-eqb, ne-eqb}
 use Rattle.fci.specs.Answers.{said}
 use Rattle.store.proofs.Replies.{errs-told, course-told}
@@ -18,7 +19,6 @@ use Rattle.store.proofs.stored.Reads as reads
 use Rattle.store.proofs.stored.Lts as lts
 use Rattle.locking.proofs.failed_by.Reads as failed-by-reads
 use Rattle.store.proofs.told_of.Reads as told-of-reads
-use Rattle.locking.proofs.with_loading.Reads as with-loading-reads
 use Rattle.load.proofs.commanded.Reads as commanded-reads
 
 failed-by-requires : tie.Need-failed-by-requires
@@ -36,9 +36,6 @@ commanded-requires c κs =
     let s = c .before .before .before .before .before .before in
     good-sure (s .args .c) (now (s .args .area)) (s .pre .0) (c .before .before .if1 .taken)
 
-with-loading-requires : tie.Need-with-loading-requires
-with-loading-requires c κs = search needs
-
 told-of-requires : tie.Need-told-of-requires
 told-of-requires c κs = c .before .before .before .before .before .before .before .before .before .before .before .pre .1
 
@@ -51,11 +48,10 @@ same-length-2 c = search needs
 returns-2 : tie.Need-returns-2
 returns-2 c =
     let told-of = c .before .before .told-of in
-    let with-loading = c .before .before .before .with-loading in
     let w = c .before .before .before .before .before .before .before in
     let s = w .before .before .before .before .before .before .before .args in
     rw (store-command (s .p1) (now (s .d)) (s .c) (now (s .area)) (w .before .before .before .if1 .taken) (w .before .before .if2 .left), ← w .commanded .ensures)
-    (course-told (s .c) (w .commanded .result) _ _ _ _ _ _ _ (with-loading .ensures) (told-of .ensures _))
+    (course-told (s .c) (w .commanded .result) _ _ _ _ _ _ _ refl (told-of .ensures _))
 
 returns-3 : tie.Need-returns-3
 returns-3 c =
@@ -69,7 +65,6 @@ stored-spec =
     failed-by-requires
     returns
     commanded-requires
-    with-loading-requires
     told-of-requires
     same-length
     same-length-2

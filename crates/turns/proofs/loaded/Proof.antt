@@ -8,14 +8,14 @@ use denote.Ref.{now}
 use borrow.Author.Needs.{needs}
 use Rattle.model.specs.Stored.{paddedZero}
 use Rattle.model.specs.Session.{turnOf}
-use Rattle.turns.proofs.Replies.{plays, refused, zeros-told, loads-kind}
+use Rattle.brief.proofs.Replies.{plays, refused, zeros-told, loads-kind}
 use Rattle.turns.proofs.loaded.Statement.{statement}
 use Rattle.turns.proofs.loaded.Tie as tie
 use Rattle.turns.proofs.loaded.Reads as reads
 use Rattle.turns.proofs.loaded.Lts as lts
 use Rattle.bytes.proofs.wide.Reads as wide-reads
 use Rattle.bytes.proofs.zero_from.Reads as zero-from-reads
-use Rattle.events.proofs.loaded_on.Reads as loaded-on-reads
+use Rattle.turns.proofs.loaded_on.Reads as loaded-on-reads
 use Rattle.kinds.proofs.is_kind.Reads as is-kind-reads
 use Rattle.kinds.proofs.refused_by.Reads as refused-by-reads
 

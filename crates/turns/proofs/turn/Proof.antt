@@ -10,9 +10,8 @@ use Rattle.turns.proofs.turn.Statement.{statement}
 use Rattle.turns.proofs.turn.Tie as tie
 use Rattle.turns.proofs.turn.Reads as reads
 use Rattle.turns.proofs.turn.Lts as lts
-use Rattle.locking.proofs.with_life.Reads as with-life-reads
 use Rattle.kinds.proofs.is_brief.Reads as is-brief-reads
-use Rattle.turns.proofs.lived.Reads as lived-reads
+use Rattle.brief.proofs.lived.Reads as lived-reads
 use Rattle.turns.proofs.loaded.Reads as loaded-reads
 
 is-brief-requires : tie.Need-is-brief-requires
@@ -25,9 +24,6 @@ lived-requires c κs =
     let pre = c .before .before .before .before .before .before .before .pre in
     let p = pre in (p .0, p .1, p .2, sym (is-brief .ensures) ∙ if1 .taken)
 
-with-life-requires : tie.Need-with-life-requires
-with-life-requires c κs = search needs
-
 same-length : tie.Need-same-length
 same-length c = search needs
 
@@ -35,7 +31,7 @@ same-length-2 : tie.Need-same-length-2
 same-length-2 c = search needs
 
 returns : tie.Need-returns
-returns c = rw (c .with-life .ensures) (c .before .before .before .before .before .lived .ensures)
+returns c = c .before .before .before .before .before .lived .ensures
 
 loaded-requires : tie.Need-loaded-requires
 loaded-requires c κs =
@@ -59,7 +55,6 @@ turn-spec =
     (tie.spec
     is-brief-requires
     lived-requires
-    with-life-requires
     same-length
     same-length-2
     returns

@@ -1,0 +1,108 @@
+use Prim.Native.Nat.{ℕ, suc, _+_, _*_, _-_, _≤_, _<_, _/_, _%_}
+use mathlib.Core.Path.{_≡_, refl, ap, sym, _∙_}
+use mathlib.Core.List.{List, [], _∷_, _++_}
+use native.Mathlib.Omega.{arith}
+use native.Mathlib.Numerals.{add-one}
+use lib.ListN.{length, take, drop, set, getD, length-set, length-take, length-drop, length-append}
+use denote.Ref.{now}
+use borrow.Author.Needs.{needs}
+use borrow.Author.Tests.{eq-eqb, ne-eqb}
+use Rattle.brief.proofs.Named.{good-name}
+use Rattle.model.specs.Events.{otherwise}
+use Rattle.kinds.specs.Brief.{brief-idle, store-unselected}
+use Rattle.brief.proofs.unanswered.Statement.{statement}
+use Rattle.brief.proofs.unanswered.Tie as tie
+use Rattle.brief.proofs.unanswered.Reads as reads
+use Rattle.brief.proofs.unanswered.Lts as lts
+use Rattle.install.proofs.installed_by.Reads as installed-by-reads
+use Rattle.life.proofs.answered_foreign.Reads as answered-foreign-reads
+use Rattle.life.proofs.deselected.Reads as deselected-reads
+use Rattle.life.proofs.locked_by.Reads as locked-by-reads
+use Rattle.life.proofs.unlocked_by.Reads as unlocked-by-reads
+
+installed-by-requires : tie.Need-installed-by-requires
+installed-by-requires c κs = let p = c .before .before .before .before .pre .0 in (p .area, good-name _ _ p)
+
+same-length : tie.Need-same-length
+same-length c = search needs
+
+returns : tie.Need-returns
+unfolding otherwise
+returns c =
+    rw (eq-eqb _ _ (c .before .before .before .before .if1 .taken)) (c .before .before .installed-by .ensures)
+
+returns-2 : tie.Need-returns-2
+unfolding otherwise
+returns-2 c =
+    let if1 = c .before .before .if1 in
+    let s = c .before .before .before .before .before in
+    let two = eq-eqb _ _ (c .before .if2 .taken) in
+    rw (ne-eqb _ _ (if1 .left), two) (store-unselected _ _ (s .args .c) _ (brief-idle (s .args .kind) (s .args .c) (s .pre .1) two))
+
+answered-foreign-requires : tie.Need-answered-foreign-requires
+answered-foreign-requires c κs = search needs
+
+returns-3 : tie.Need-returns-3
+unfolding otherwise
+returns-3 c =
+    let three = c .before in
+    let two = three .before in
+    let one = two .before in
+    rw (ne-eqb _ _ (one .if1 .left), ne-eqb _ _ (two .if2 .left), one .before .before .before .pre .2, eq-eqb _ _ (three .if3 .taken)) (c .answered-foreign .ensures _)
+
+locked-by-requires : tie.Need-locked-by-requires
+locked-by-requires c κs = search needs
+
+returns-4 : tie.Need-returns-4
+unfolding otherwise
+returns-4 c =
+    let four = c .before in
+    let three = four .before in
+    let two = three .before in
+    let one = two .before in
+    rw (ne-eqb _ _ (one .if1 .left), ne-eqb _ _ (two .if2 .left), one .before .before .before .pre .2, ne-eqb _ _ (three .if3 .left), eq-eqb _ _ (four .if4 .taken)) (c .locked-by .ensures _)
+
+unlocked-by-requires : tie.Need-unlocked-by-requires
+unlocked-by-requires c κs = search needs
+
+returns-5 : tie.Need-returns-5
+unfolding otherwise
+returns-5 c =
+    let five = c .before in
+    let four = five .before in
+    let three = four .before in
+    let two = three .before in
+    let one = two .before in
+    rw (ne-eqb _ _ (one .if1 .left), ne-eqb _ _ (two .if2 .left), one .before .before .before .pre .2, ne-eqb _ _ (three .if3 .left), ne-eqb _ _ (four .if4 .left), eq-eqb _ _ (five .if5 .taken))
+    (c .unlocked-by .ensures _)
+
+deselected-requires : tie.Need-deselected-requires
+deselected-requires c κs = search needs
+
+returns-6 : tie.Need-returns-6
+unfolding otherwise
+returns-6 c =
+    let five = c .before in
+    let four = five .before in
+    let three = four .before in
+    let two = three .before in
+    let one = two .before in
+    rw (ne-eqb _ _ (one .if1 .left), ne-eqb _ _ (two .if2 .left), one .before .before .before .pre .2, ne-eqb _ _ (three .if3 .left), ne-eqb _ _ (four .if4 .left), ne-eqb _ _ (five .if5 .left))
+    (c .deselected .ensures _)
+
+pub unanswered-spec : {M : Type 1} → statement M
+unanswered-spec =
+    tie.close
+    (tie.spec
+    installed-by-requires
+    same-length
+    returns
+    returns-2
+    answered-foreign-requires
+    returns-3
+    locked-by-requires
+    returns-4
+    unlocked-by-requires
+    returns-5
+    deselected-requires
+    returns-6)

@@ -1,0 +1,19 @@
+// The last line: END and the number of events.
+ghost use mathlib.Core.Path.{_≡_};
+ghost use Prim.Native.Nat.{_+_, _≤_};
+ghost use lib.ListN.{length};
+ghost use Rattle.lists.specs.Over.{overwrite};
+ghost use Rattle.model.specs.Lines.{endOf};
+
+pub const END_SIZE: usize = 10;
+
+const LINE_FEED: u8 = 0x0A;
+
+pub fn put_end(out: &mut [u8], at: usize, n: u64)
+    requires { ⌜ at + 10 ≤ length (now out) ⌝ }
+    ensures { λ _. ⌜ now (out .exit) ≡ overwrite (now (out .entry)) at (endOf n) ⌝ }
+{
+    slices::put_bytes(out, at, b"END ");
+    digits::put_five(out, at + 4, n);
+    out[at + 9] = LINE_FEED;
+}
