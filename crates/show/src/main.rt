@@ -25,56 +25,31 @@ const NAME_LIMIT: usize = 16;
 
 const TABLE_LIMIT: usize = 31;
 
-const ROW_COUNT: usize = 11;
+const ROW_COUNT: u8 = 11;
 
-const RECORD_ROW: usize = 11;
+const RECORD_ROW: u8 = 11;
 
 // '3800' is row 6; the secrets are those of rows 6 to 10.
-const FIRST_SECRET_ROW: usize = 6;
+const FIRST_SECRET_ROW: u8 = 6;
 
-const SECRETS: usize = 5;
+const SECRETS: u8 = 5;
 
-// The life cycle's values, GP. The absent card has '00'.
-const INSTALLED: u8 = 0x03;
-
-const SELECTABLE: u8 = 0x07;
-
-const LOCKED_INSTALLED: u8 = 0x83;
-
-const LOCKED_SELECTABLE: u8 = 0x87;
-
-// The internal state's. Before loading it is 'CC'.
-const PERSONALIZING: u8 = 0x5A;
-
-const PERSONALIZED: u8 = 0xA5;
-
-// FileType and EFType. A counters file is '09', the last type.
+// The FileType and EFTypes that the text turns on, and the access condition that has a key.
 const DF: u8 = 0x02;
 
 const BINARY: u8 = 0x01;
 
-const LINEAR: u8 = 0x02;
-
-const CYCLIC: u8 = 0x04;
-
 const SIMULATED: u8 = 0x08;
 
-// Access conditions, and the keys of SESSION. ALWAYS is '1F', and the third key is Debit/Validation.
-const NEVER: u8 = 0x00;
-
-const PIN: u8 = 0x01;
-
 const SESSION: u8 = 0x10;
-
-const ISSUER_KEY: u8 = 1;
-
-const LOAD_KEY: u8 = 2;
 
 const FILE_TABLE_TAG: u16 = 0x3100;
 
 const ACCESSES: usize = 4;
 
 const DOT: u8 = 0x2E;
+
+const BAR: u8 = 0x7C;
 
 fn at_most(n: usize, most: usize) -> usize
     ensures { λ r. ⌜ (r ≤ most) × (r ≤ n) ⌝ }
@@ -157,6 +132,42 @@ fn put_dump(out: &mut [u8], at: usize, bytes: &[u8]) -> usize {
     to
 }
 
+// A part of a list of words.
+struct Word {
+    pub start: usize,
+    pub end: usize,
+}
+
+// The word of a value: each begins with the value that it is for and ends with a bar. A value that has none gives none.
+fn word_for(words: &[u8], value: u8) -> Word
+    ensures { λ r. ⌜ (r .start ≤ r .end) × (r .end ≤ length (now (words .entry))) ⌝ }
+{
+    let mut from: usize = 0;
+    let mut i: usize = 0;
+    while i < words.len() {
+        if words[i] == BAR {
+            if from < i {
+                if words[from] == value {
+                    return Word {
+                        start: from + 1,
+                        end: i,
+                    };
+                }
+            }
+            from = i + 1;
+        }
+        i += 1;
+    }
+    Word { start: 0, end: 0 }
+}
+
+fn put_word_for(out: &mut [u8], at: usize, words: &[u8], value: u8) -> usize {
+    let w = word_for(words, value);
+    let start = w.start;
+    let end = w.end;
+    put(out, at, &words[start..end])
+}
+
 // A printable character as it is, any other byte as a dot.
 fn character(b: u8) -> u8 {
     if b < 0x20 {
@@ -195,23 +206,6 @@ fn put_name_line(out: &mut [u8], at: usize, name: [u8; 16], n: usize) -> usize {
     put_name(out, label, &name[..k])
 }
 
-// The life cycle, GP, in words. Here and below a sound card has no other values than those named: the last needs no test.
-fn put_cycle(out: &mut [u8], at: usize, gp: u8) -> usize {
-    if gp == INSTALLED {
-        return put(out, at, b" installed");
-    }
-    if gp == SELECTABLE {
-        return put(out, at, b" selectable");
-    }
-    if gp == LOCKED_INSTALLED {
-        return put(out, at, b" locked from installed");
-    }
-    if gp == LOCKED_SELECTABLE {
-        return put(out, at, b" locked from selectable");
-    }
-    put(out, at, b" absent")
-}
-
 fn put_selected(out: &mut [u8], at: usize, selected: bool) -> usize {
     if selected {
         return put(out, at, b", selected");
@@ -224,25 +218,24 @@ fn put_life(out: &mut [u8], at: usize, life: Life) -> usize {
     let named = put_name_line(out, at, name, life.namelen);
     let label = put(out, named, b"\n  life cycle      ");
     let code = put_byte(out, label, life.gp);
-    let cycle = put_cycle(out, code, life.gp);
+    let cycle = put_word_for(
+        out,
+        code,
+        b"\x00 absent|\x03 installed|\x07 selectable|\x83 locked from installed|\x87 locked from selectable|",
+        life.gp,
+    );
     put_selected(out, cycle, life.selected)
-}
-
-// The internal state in words.
-fn put_state(out: &mut [u8], at: usize, internal: u8) -> usize {
-    if internal == PERSONALIZING {
-        return put(out, at, b" PERSONALIZING");
-    }
-    if internal == PERSONALIZED {
-        return put(out, at, b" PERSONALIZED");
-    }
-    put(out, at, b" NOT_PERSONALIZED, before loading")
 }
 
 fn put_internal(out: &mut [u8], at: usize, internal: u8) -> usize {
     let label = put(out, at, b"\n  internal state  ");
     let code = put_byte(out, label, internal);
-    put_state(out, code, internal)
+    put_word_for(
+        out,
+        code,
+        b"\xCC NOT_PERSONALIZED, before loading|\x5A PERSONALIZING|\xA5 PERSONALIZED|",
+        internal,
+    )
 }
 
 // The number of events by its last five digits: those of the register's last line, behind its END.
@@ -314,56 +307,29 @@ fn put_facts(out: &mut [u8], at: usize, l: Loading) -> usize {
     put_open(out, third, pending)
 }
 
-// What rows 1 to 5 are.
-fn put_fact_row(out: &mut [u8], at: usize, r: usize) -> usize {
-    if r == 1 {
-        return put(out, at, b"\n  '9484' challenge");
-    }
-    if r == 2 {
-        return put(out, at, b"\n  '2000' serial number");
-    }
-    if r == 3 {
-        return put(out, at, b"\n  '2100' startup information");
-    }
-    if r == 4 {
-        return put(out, at, b"\n  '2200' transaction counter");
-    }
-    put(out, at, b"\n  '3100' file table")
+// What rows 1 to 10 are.
+fn put_row_name(out: &mut [u8], at: usize, r: u8) -> usize {
+    put_word_for(
+        out,
+        at,
+        b"\x01\n  '9484' challenge|\x02\n  '2000' serial number|\x03\n  '2100' startup information|\x04\n  '2200' transaction counter|\x05\n  '3100' file table|\x06\n  '3800' activation parameters|\x07\n  '4101' Issuer key|\x08\n  '4102' Load key|\x09\n  '4103' Debit key|\x0A\n  '4104' PIN|",
+        r,
+    )
 }
 
-// What rows 6 to 10 are: those of the secrets.
-fn put_secret_row(out: &mut [u8], at: usize, r: usize) -> usize {
-    if r == 6 {
-        return put(out, at, b"\n  '3800' activation parameters");
-    }
-    if r == 7 {
-        return put(out, at, b"\n  '4101' Issuer key");
-    }
-    if r == 8 {
-        return put(out, at, b"\n  '4102' Load key");
-    }
-    if r == 9 {
-        return put(out, at, b"\n  '4103' Debit key");
-    }
-    put(out, at, b"\n  '4104' PIN")
-}
-
-fn put_row(out: &mut [u8], at: usize, r: usize, last: u16) -> usize {
-    if r < FIRST_SECRET_ROW {
-        return put_fact_row(out, at, r);
-    }
+fn put_row(out: &mut [u8], at: usize, r: u8, last: u16) -> usize {
     if r < RECORD_ROW {
-        return put_secret_row(out, at, r);
+        return put_row_name(out, at, r);
     }
     let to = put(out, at, b"\n  'ssnn' file contents, last ");
     put_word(out, to, last)
 }
 
 // A row's line, where it is taken.
-fn put_taken(out: &mut [u8], at: usize, r: usize, rows: u16, last: u16) -> usize
+fn put_taken(out: &mut [u8], at: usize, r: u8, rows: u16, last: u16) -> usize
     requires { ⌜ (1 ≤ r) × (r ≤ 11) ⌝ }
 {
-    if sets::is_taken(rows, r) {
+    if sets::is_taken(rows, r as usize) {
         return put_row(out, at, r, last);
     }
     at
@@ -371,7 +337,7 @@ fn put_taken(out: &mut [u8], at: usize, r: usize, rows: u16, last: u16) -> usize
 
 fn put_rows(out: &mut [u8], at: usize, rows: u16, last: u16) -> usize {
     let mut to = at;
-    let mut r: usize = 0;
+    let mut r: u8 = 0;
     while r < ROW_COUNT {
         r += 1;
         to = put_taken(out, to, r, rows, last);
@@ -380,10 +346,10 @@ fn put_rows(out: &mut [u8], at: usize, rows: u16, last: u16) -> usize {
 }
 
 // A secret's length, and no byte of it.
-fn put_length(out: &mut [u8], at: usize, i: usize, n: usize) -> usize
+fn put_length(out: &mut [u8], at: usize, i: u8, n: usize) -> usize
     requires { ⌜ i < 5 ⌝ }
 {
-    let name = put_secret_row(out, at, FIRST_SECRET_ROW + i);
+    let name = put_row_name(out, at, FIRST_SECRET_ROW + i);
     let gap = put(out, name, b": ");
     if n == 0 {
         return put(out, gap, b"none");
@@ -393,9 +359,9 @@ fn put_length(out: &mut [u8], at: usize, i: usize, n: usize) -> usize
 
 fn put_lengths(out: &mut [u8], at: usize, secrets: [Secret; 5]) -> usize {
     let mut to = at;
-    let mut i: usize = 0;
+    let mut i: u8 = 0;
     while i < SECRETS {
-        let s = secrets[i];
+        let s = secrets[i as usize];
         to = put_length(out, to, i, s.len);
         i += 1;
     }
@@ -412,29 +378,18 @@ fn put_loaded(out: &mut [u8], at: usize, l: Loading, taken: u32) -> usize {
     put_lengths(out, title, secrets)
 }
 
-fn put_key(out: &mut [u8], at: usize, key: u8) -> usize {
-    if key == ISSUER_KEY {
-        return put(out, at, b"key 1 (Issuer key)");
-    }
-    if key == LOAD_KEY {
-        return put(out, at, b"key 2 (Load key)");
-    }
-    put(out, at, b"key 3 (Debit/Validation key)")
-}
-
 // An access condition, with its key where it has one.
 fn put_access(out: &mut [u8], at: usize, ac: u8, key: u8) -> usize {
     if ac == SESSION {
-        let to = put(out, at, b"SESSION with ");
-        return put_key(out, to, key);
+        let to = put(out, at, b"SESSION with key ");
+        return put_word_for(
+            out,
+            to,
+            b"\x011 (Issuer key)|\x022 (Load key)|\x033 (Debit/Validation key)|",
+            key,
+        );
     }
-    if ac == NEVER {
-        return put(out, at, b"NEVER");
-    }
-    if ac == PIN {
-        return put(out, at, b"PIN");
-    }
-    put(out, at, b"ALWAYS")
+    put_word_for(out, at, b"\x00NEVER|\x01PIN|\x1FALWAYS|", ac)
 }
 
 // What parts an access condition from the one before.
@@ -456,23 +411,6 @@ fn put_accesses(out: &mut [u8], at: usize, ac: [u8; 4], nkey: [u8; 4]) -> usize 
     to
 }
 
-// An EF's type in words.
-fn put_type(out: &mut [u8], at: usize, eftype: u8) -> usize {
-    if eftype == BINARY {
-        return put(out, at, b", binary file, ");
-    }
-    if eftype == LINEAR {
-        return put(out, at, b", linear file, ");
-    }
-    if eftype == CYCLIC {
-        return put(out, at, b", cyclic file, ");
-    }
-    if eftype == SIMULATED {
-        return put(out, at, b", simulated counter file, ");
-    }
-    put(out, at, b", counters file, ")
-}
-
 // A binary file's size, or the number and size of the records.
 fn put_sizes(out: &mut [u8], at: usize, d: Descriptor) -> usize {
     if d.eftype == BINARY {
@@ -491,20 +429,23 @@ fn put_sfi(out: &mut [u8], at: usize, sfi: u8) -> usize {
     put_byte(out, label, sfi)
 }
 
-fn put_df(out: &mut [u8], at: usize, status: u8) -> usize {
-    if status == 0 {
-        return put(out, at, b", DF, validated");
-    }
-    put(out, at, b", DF, invalidated")
-}
-
 // What a descriptor says but its LID and access conditions.
 fn put_kind(out: &mut [u8], at: usize, d: Descriptor) -> usize {
     if d.filetype == DF {
-        return put_df(out, at, d.status);
+        return put_word_for(
+            out,
+            at,
+            b"\x00, DF, validated|\x01, DF, invalidated|",
+            d.status,
+        );
     }
     let sfi = put_sfi(out, at, d.sfi);
-    let kind = put_type(out, sfi, d.eftype);
+    let kind = put_word_for(
+        out,
+        sfi,
+        b"\x01, binary file, |\x02, linear file, |\x04, cyclic file, |\x08, simulated counter file, |\x09, counters file, |",
+        d.eftype,
+    );
     put_sizes(out, kind, d)
 }
 

@@ -14,6 +14,9 @@ abbrev μ-loop : tie.MeasureT-loop
 loop-holds : tie.Need-loop-holds Inv-loop μ-loop
 loop-holds c = search needs
 
+cast-s : tie.Need-cast-s Inv-loop μ-loop
+cast-s c = search needs
+
 mul-s : tie.Need-mul-s Inv-loop μ-loop
 mul-s c = search needs
 
@@ -45,6 +48,7 @@ put-lengths-spec =
     Inv-loop
     μ-loop
     loop-holds
+    cast-s
     mul-s
     array-copy-out-s
     put-length-requires
