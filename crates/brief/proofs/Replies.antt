@@ -7,6 +7,7 @@ use lib.ListN.{drop}
 use Rattle.lists.specs.Bytes.{byteAt, allZero}
 use Rattle.lists.specs.Over.{over-none}
 use Rattle.model.specs.declared.Card.{Card}
+use Rattle.model.specs.declared.Played.{Played}
 use Rattle.model.specs.Stored.{eventIn, isKind, paddedZero}
 use Rattle.model.specs.Events.{Reply, says, event}
 use Rattle.model.specs.Session.{refusedBy, replied, turnOf}
@@ -16,9 +17,13 @@ use Rattle.kinds.specs.Brief.{isBrief, briefTurn}
 use Rattle.brief.specs.Plays.{Plays}
 
 -- a reply played, and a refusal
+pub played : {x : Reply} {r : Played} {area before after : List ℕ} → r .number ≡ 0 → Answers x (r .word) (r .answered) (r .card) area before after
+    → Plays (replied x) r area before after
+played e h = record { numbers = e; says = h .says; counts = h .counts; leaves = h .leaves; keeps = h .keeps; writes = h .writes }
+
 pub plays : {x : Reply} {w n : ℕ} {c : Card} {area before after : List ℕ} → Answers x w n c area before after
     → Plays (replied x) (record { number = 0; word = w; answered = n; card = c }) area before after
-plays h = record { numbers = refl; says = h .says; counts = h .counts; leaves = h .leaves; keeps = h .keeps; writes = h .writes }
+plays h = played refl h
 
 pub refused : (n : ℕ) (c : Card) (a buffer : List ℕ) → Plays (refusedBy n c a) (record { number = n; word = 0; answered = 0; card = c }) a buffer buffer
 refused n c a buffer = record { numbers = refl; says = refl; counts = refl; leaves = refl; keeps = refl; writes = sym (over-none buffer 0) }

@@ -1,13 +1,10 @@
--- Facts of the values that stay whole, and of a query's place.
-use Prim.Native.Nat.{ℕ, suc, _+_, _-_, _≤_, _<_}
+-- Facts of the values that stay whole.
+use Prim.Native.Nat.{ℕ, suc, _+_, _-_, _≤_}
 use mathlib.Core.Path.{_≡_, refl, ap, sym, _∙_, subst}
-use mathlib.Core.Bool.{Bool, true, false, _&&_}
 use mathlib.Core.List.{List, [], _∷_}
 use native.Mathlib.Omega.{arith}
-use lib.Dec.{eqb}
 use lib.ListN.{length, set, take, drop, length-drop}
 use lib.Seq.{length-take-le, drop-drop}
-use borrow.Author.Tests.{eq-eqb, ne-eqb}
 use Rattle.lists.specs.Bytes.{padded, padded-full, part}
 use Rattle.model.specs.declared.Head.{Head}
 use Rattle.model.specs.declared.Loading.{Loading}
@@ -22,18 +19,6 @@ use Rattle.steps.specs.Steps.{stateOf, judgedAs, took}
 pub first-set : (n x : ℕ) (v : List ℕ) → length v ≡ suc n → set (padded (suc n) v) 0 x ≡ x ∷ drop 1 v
 first-set n x [] e = absurd (omega arith)
 first-set n x (b ∷ bs) e = ap (λ (l : List ℕ). set l 0 x) (padded-full (suc n) (b ∷ bs) e)
-
--- so many bytes are left: whether those are all
-module _ (n at left : ℕ) (e : left ≡ n - at) where
-  pub not-first : at < n → (at ≡ 0 → ⊥) → eqb left n ≡ false
-  not-first h f = ne-eqb left n (λ q. f (omega arith))
-
-  pub first : at ≡ 0 → eqb left n ≡ true
-  first h = eq-eqb left n (omega arith)
-
--- a header at the first byte that tells no value, and is all of the data: the test of a query
-pub alone : (n at left len size : ℕ) → left ≡ n - at → at ≡ 0 → len ≡ 0 → size ≡ n → (eqb left n && eqb len 0 && eqb size n) ≡ true
-alone n at left len size e f g h = rw (first n at left e f, eq-eqb len 0 g, eq-eqb size n h)
 
 -- a value that lies in the data
 module _ (d : List ℕ) (at n : ℕ) where

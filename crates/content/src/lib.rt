@@ -18,15 +18,6 @@ ghost use Rattle.records.specs.Steps.{Sized};
 
 const FIRST_SECRET_ROW: usize = 6;
 
-pub fn failed_by(w: u16, l: Loading) -> Step
-    ensures { λ r. ⌜ r ≡ record { course = Course.Failed w; load = l } ⌝ }
-{
-    Step {
-        course: Course::Failed(w),
-        load: l,
-    }
-}
-
 // '2100': first byte 6 to 55 and last two zero.
 fn is_startup(v: &[u8]) -> bool
     requires { ⌜ length (now v) ≡ 7 ⌝ }
@@ -154,6 +145,6 @@ pub fn whole_at(l: Loading, capacity: u8, row: usize, h: Head, d: &[u8], at: usi
             course: Course::Went(end),
             load: steps::with_taken(load, row),
         },
-        Verdict::Refuses(w) => failed_by(w, load),
+        Verdict::Refuses(w) => steps::failed_by(w, load),
     }
 }

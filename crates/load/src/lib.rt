@@ -66,7 +66,7 @@ fn ended_by(l: Loading, p1: u8) -> Step
         };
     }
     if rows::mandatory_missing(l.rows) {
-        return content::failed_by(0x6985, l);
+        return steps::failed_by(0x6985, l);
     }
     let pending = l.pending;
     match pending {
@@ -81,12 +81,12 @@ fn ended_by(l: Loading, p1: u8) -> Step
         Open::Table {
             held: _,
             missing: _,
-        } => content::failed_by(0x6985, l),
+        } => steps::failed_by(0x6985, l),
         Open::Record {
             tag: _,
             written: _,
             missing: _,
-        } => content::failed_by(0x6985, l),
+        } => steps::failed_by(0x6985, l),
     }
 }
 

@@ -1,17 +1,11 @@
 // Locking, and an error of a command: in '5A' it locks.
 use model::Card;
 use model::Open;
+use model::Played;
 ghost use mathlib.Core.Path.{_≡_};
 ghost use mathlib.Core.List.{List};
 ghost use Prim.Native.Nat.{ℕ};
 ghost use Rattle.model.specs.Events.{says, locked, errs};
-
-// The word of an event, the number of its answer bytes, and the card after it.
-pub struct Told {
-    pub word: u16,
-    pub answered: usize,
-    pub card: Card,
-}
 
 // Locking: '87', not selected, an open value dropped.
 pub fn locked_now(c: Card) -> Card
@@ -30,17 +24,19 @@ pub fn locked_now(c: Card) -> Card
 }
 
 // An error of a command: in '5A' it locks.
-pub fn failed_by(c: Card, w: u16) -> Told
-    ensures { λ r. ⌜ (r .answered ≡ 0) × ((a : List ℕ) → errs w c a ≡ says (r .word) (r .card) a) ⌝ }
+pub fn failed_by(c: Card, w: u16) -> Played
+    ensures { λ r. ⌜ (r .number ≡ 0) × (r .answered ≡ 0) × ((a : List ℕ) → errs w c a ≡ says (r .word) (r .card) a) ⌝ }
 {
     if c.loading.internal == 0x5A {
-        return Told {
+        return Played {
+            number: 0,
             word: w,
             answered: 0, // an error gives no bytes
             card: locked_now(c),
         };
     }
-    Told {
+    Played {
+        number: 0,
         word: w,
         answered: 0,
         card: c,

@@ -29,7 +29,7 @@ fn challenge_given(l: Loading) -> Step
     ensures { λ r. ⌜ ((a : List ℕ) → ended r a ≡ challenged (stateOf l a)) ⌝ }
 {
     if l.internal != 0xCC {
-        return content::failed_by(0x6985, l);
+        return steps::failed_by(0x6985, l);
     }
     if due::is_due(l.rows, l.last, 1, 0x9484) {
         return Step {
@@ -37,7 +37,7 @@ fn challenge_given(l: Loading) -> Step
             load: steps::with_taken(l, 1),
         };
     }
-    content::failed_by(0x6985, l)
+    steps::failed_by(0x6985, l)
 }
 
 // Rule b: a query stands at data byte 0, empty and alone, with P1 bit 1 set and bit 8 clear.
@@ -46,19 +46,19 @@ pub fn queried(l: Loading, p1: u8, h: Head, n: usize, at: usize) -> Step
     ensures { λ r. ⌜ ((bytes a : List ℕ) → length bytes ≡ n - at → ended r a ≡ query n p1 bytes h (stateOf l a)) ⌝ }
 {
     if at != 0 {
-        return content::failed_by(0x6A80, l);
+        return steps::failed_by(0x6A80, l);
     }
     if h.len != 0 {
-        return content::failed_by(0x6A80, l);
+        return steps::failed_by(0x6A80, l);
     }
     if h.size != n {
-        return content::failed_by(0x6A80, l);
+        return steps::failed_by(0x6A80, l);
     }
     if p1 % 2 != 1 {
-        return content::failed_by(0x6A86, l);
+        return steps::failed_by(0x6A86, l);
     }
     if 0x80 <= p1 {
-        return content::failed_by(0x6A86, l);
+        return steps::failed_by(0x6A86, l);
     }
     let tag = h.tag;
     if tag == 0x9484 {

@@ -53,7 +53,7 @@ fn from_e(
     let verdict = room_of(l, row, h.tag);
     match verdict {
         Verdict::Passes(room) => values::from_f(l, area, capacity, row, room, h, d, at),
-        Verdict::Refuses(w) => content::failed_by(w, l),
+        Verdict::Refuses(w) => steps::failed_by(w, l),
     }
 }
 
@@ -65,7 +65,7 @@ fn from_d(l: Loading, area: &mut [u8], capacity: u8, h: Head, d: &[u8], at: usiz
     let verdict = due::due_row(l.rows, l.last, h.tag);
     match verdict {
         Verdict::Passes(row) => from_e(l, area, capacity, row, h, d, at),
-        Verdict::Refuses(w) => content::failed_by(w, l),
+        Verdict::Refuses(w) => steps::failed_by(w, l),
     }
 }
 
@@ -75,7 +75,7 @@ fn from_c(l: Loading, area: &mut [u8], capacity: u8, h: Head, d: &[u8], at: usiz
     ensures { λ r. ⌜ stepped r (now (d .entry)) (now (area .exit)) ≡ fromC capacity h (drop at (now (d .entry))) (stateOf l (now (area .entry))) ⌝ }
 {
     if l.internal == 0xA5 {
-        return content::failed_by(0x6985, l);
+        return steps::failed_by(0x6985, l);
     }
     let mut next = l;
     next.internal = 0x5A;
@@ -102,6 +102,6 @@ pub fn grouping_at(l: Loading, area: &mut [u8], capacity: u8, p1: u8, d: &[u8], 
     let header = header::header_at(d, at);
     match header {
         Header::Whole(h) => from_b(l, area, capacity, p1, h, d, at),
-        Header::Torn => content::failed_by(0x6A80, l),
+        Header::Torn => steps::failed_by(0x6A80, l),
     }
 }

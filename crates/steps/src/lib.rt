@@ -5,6 +5,7 @@ use model::Verdict;
 ghost use mathlib.Core.Path.{_≡_};
 ghost use Prim.Native.Nat.{_≤_};
 ghost use Rattle.model.specs.Loads.{withTaken, withOpen};
+ghost use Rattle.steps.specs.declared.Course.the-variants.{Failed};
 
 // How a step of the walk ends: it goes on from a place of the data, a query was asked, or it failed by a word.
 pub enum Course {
@@ -22,6 +23,16 @@ pub struct Step {
 pub struct Taken {
     pub verdict: Verdict,
     pub load: Loading,
+}
+
+// A step that failed.
+pub fn failed_by(w: u16, l: Loading) -> Step
+    ensures { λ r. ⌜ r ≡ record { course = Failed w; load = l } ⌝ }
+{
+    Step {
+        course: Course::Failed(w),
+        load: l,
+    }
 }
 
 // The loading part with another open value: the one place that makes it anew.

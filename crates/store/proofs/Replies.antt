@@ -16,18 +16,13 @@ use Rattle.steps.specs.declared.Course.the-variants.{Went, Asked, Failed}
 use Rattle.steps.specs.declared.Step.{Step}
 use Rattle.steps.specs.Steps.{stateOf}
 use Rattle.records.specs.Steps.{endedAs, ended}
-use Rattle.locking.specs.declared.Told.{Told}
+use Rattle.model.specs.declared.Played.{Played}
 use Rattle.store.specs.Ends.{commandedAs}
 
--- a word and a life, told as they are
-pub lives : (c : Card) {x : Reply} {w : ℕ} {f : Life} {a buffer : List ℕ} {r : Told} → x ≡ says w (withLife f c) a
-    → (r .word ≡ w) × (r .answered ≡ 0) × (r .card ≡ withLife f c) → Answers x (r .word) (r .answered) (r .card) a buffer buffer
-lives c e h = rw (e, h .0, h .1, h .2) (said _ _ _ _)
-
 -- an error, told as it is
-pub errs-told : (w : ℕ) (c : Card) (a buffer : List ℕ) (r : Told) → (r .answered ≡ 0) × ((a : List ℕ) → errs w c a ≡ says (r .word) (r .card) a)
-    → Answers (errs w c a) (r .word) (r .answered) (r .card) a buffer buffer
-errs-told w c a buffer r h = rw (h .1 a, h .0) (said _ _ _ _)
+pub errs-told : (w : ℕ) (c : Card) (a buffer : List ℕ) (r : Played) → (r .number ≡ 0) × (r .answered ≡ 0) × ((a : List ℕ) → errs w c a ≡ says (r .word) (r .card) a)
+    → (r .number ≡ 0) × Answers (errs w c a) (r .word) (r .answered) (r .card) a buffer buffer
+errs-told w c a buffer r h = (h .0, rw (h .2 a, h .1) (said _ _ _ _))
 
 -- a command's end is told of the card with its loading part
 module _ (c : Card) (s : Step) (word count : ℕ) (e : Card) (a before after : List ℕ) where

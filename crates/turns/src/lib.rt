@@ -1,5 +1,4 @@
 // One record on a sound card: numbers 4 and 5, else the event. `brief` has the events that change the life at most.
-use locking::Told;
 use model::Card;
 use model::Played;
 ghost use mathlib.Core.Path.{_≡_};
@@ -18,39 +17,44 @@ ghost use Rattle.brief.specs.Plays.{Plays};
 const DATA_PLACE: usize = 4;
 
 // The replies in '5A' of a card that is locked, or was just locked.
-fn stuck_by(c: Card, answer: &mut [u8], kind: u8, d: &[u8]) -> Told
+fn stuck_by(c: Card, answer: &mut [u8], kind: u8, d: &[u8]) -> Played
     requires { ⌜ (64 ≤ length (now answer)) × (c .life .namelen ≤ 16) ⌝ }
-    ensures { λ r. ⌜ ((p : ℕ) (a : List ℕ) → Answers (stuck (eventOf kind p (now (d .entry))) c a) (r .word) (r .answered) (r .card) a (now (answer .entry)) (now (answer .exit))) ⌝ }
+    ensures { λ r. ⌜ (r .number ≡ 0) × ((p : ℕ) (a : List ℕ) → Answers (stuck (eventOf kind p (now (d .entry))) c a) (r .word) (r .answered) (r .card) a (now (answer .entry)) (now (answer .exit))) ⌝ }
 {
     if kind == 3 {
         if names::is_named(c.life, d) {
-            return Told {
+            return Played {
+                number: 0,
                 word: 0x6283,
                 answered: fci::lay_name_fci(answer, c),
                 card: c,
             };
         }
-        return Told {
+        return Played {
+            number: 0,
             word: 0x6A82,
             answered: 0,
             card: c,
         };
     }
     if kind == 5 {
-        return Told {
+        return Played {
+            number: 0,
             word: 0x0000,
             answered: 0,
             card: c,
         };
     }
     if kind == 6 {
-        return Told {
+        return Played {
+            number: 0,
             word: 0x0000,
             answered: 0,
             card: c,
         };
     }
-    Told {
+    Played {
+        number: 0,
         word: 0x6985,
         answered: 0,
         card: c,
@@ -58,9 +62,9 @@ fn stuck_by(c: Card, answer: &mut [u8], kind: u8, d: &[u8]) -> Told
 }
 
 // Any other event: whatever comes in '5A', and STORE DATA.
-fn loaded_on(c: Card, area: &mut [u8], answer: &mut [u8], kind: u8, p1: u8, d: &[u8]) -> Told
+fn loaded_on(c: Card, area: &mut [u8], answer: &mut [u8], kind: u8, p1: u8, d: &[u8]) -> Played
     requires { ⌜ Good areaSize c (now area) × (64 ≤ length (now answer)) × (isBrief kind c ≡ false) ⌝ }
-    ensures { λ r. ⌜ Answers (event (eventOf kind p1 (now (d .entry))) c (now (area .entry))) (r .word) (r .answered) (r .card) (now (area .exit)) (now (answer .entry)) (now (answer .exit)) ⌝ }
+    ensures { λ r. ⌜ (r .number ≡ 0) × Answers (event (eventOf kind p1 (now (d .entry))) c (now (area .entry))) (r .word) (r .answered) (r .card) (now (area .exit)) (now (answer .entry)) (now (answer .exit)) ⌝ }
 {
     if c.loading.internal == 0x5A {
         if c.life.gp != 0x07 {
@@ -83,14 +87,7 @@ pub fn loaded(c: Card, area: &mut [u8], answer: &mut [u8], r: &[u8]) -> Played
     if kinds::is_kind(kind) {
         let end = DATA_PLACE + bytes::wide(r[3]);
         if bytes::zero_from(r, end) {
-            let x = loaded_on(c, area, answer, kind, r[1], &r[DATA_PLACE..end]);
-            let after = x.card;
-            return Played {
-                number: 0,
-                word: x.word,
-                answered: x.answered,
-                card: after,
-            };
+            return loaded_on(c, area, answer, kind, r[1], &r[DATA_PLACE..end]);
         }
         return kinds::refused_by(5, c);
     }

@@ -82,7 +82,7 @@ pub fn from_f(
         if h.len <= d.len() - start {
             return content::whole_at(l, capacity, row, h, d, start);
         }
-        return content::failed_by(0x6A80, l);
+        return steps::failed_by(0x6A80, l);
     }
-    content::failed_by(0x6700, l)
+    steps::failed_by(0x6700, l)
 }

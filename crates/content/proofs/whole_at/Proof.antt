@@ -12,7 +12,7 @@ use Rattle.content.proofs.whole_at.Tie as tie
 use Rattle.content.proofs.whole_at.Reads as reads
 use Rattle.content.proofs.whole_at.Lts as lts
 use Rattle.steps.proofs.with_taken.Reads as with-taken-reads
-use Rattle.content.proofs.failed_by.Reads as failed-by-reads
+use Rattle.steps.proofs.failed_by.Reads as failed-by-reads
 use Rattle.content.proofs.kept_as.Reads as kept-as-reads
 
 add-end : tie.Need-add-end

@@ -12,7 +12,7 @@ use Rattle.load.proofs.ended_by.Statement.{statement}
 use Rattle.load.proofs.ended_by.Tie as tie
 use Rattle.load.proofs.ended_by.Reads as reads
 use Rattle.load.proofs.ended_by.Lts as lts
-use Rattle.content.proofs.failed_by.Reads as failed-by-reads
+use Rattle.steps.proofs.failed_by.Reads as failed-by-reads
 use Rattle.rows.proofs.mandatory_missing.Reads as mandatory-missing-reads
 
 returns : tie.Need-returns

@@ -10,11 +10,11 @@ locked-now-requires c κs = search needs
 
 returns : tie.Need-returns
 unfolding errs
-returns c = (refl, λ a. rw (eq-eqb _ 0x5A (c .before .if1 .taken), c .locked-now .ensures))
+returns c = (refl, refl, λ a. rw (eq-eqb _ 0x5A (c .before .if1 .taken), c .locked-now .ensures))
 
 returns-2 : tie.Need-returns-2
 unfolding errs
-returns-2 c = (refl, λ a. rw (ne-eqb _ 0x5A (c .if1 .left)))
+returns-2 c = (refl, refl, λ a. rw (ne-eqb _ 0x5A (c .if1 .left)))
 
 pub failed-by-spec : {M : Type 1} → statement M
 failed-by-spec = tie.close (tie.spec locked-now-requires returns returns-2)

@@ -13,7 +13,7 @@ use Rattle.queries.proofs.challenge_given.Tie as tie
 use Rattle.queries.proofs.challenge_given.Reads as reads
 use Rattle.queries.proofs.challenge_given.Lts as lts
 use Rattle.steps.proofs.with_taken.Reads as with-taken-reads
-use Rattle.content.proofs.failed_by.Reads as failed-by-reads
+use Rattle.steps.proofs.failed_by.Reads as failed-by-reads
 use Rattle.due.proofs.is_due.Reads as is-due-reads
 
 failed-by-requires : tie.Need-failed-by-requires

@@ -6,7 +6,7 @@ use native.Mathlib.Numerals.{add-one}
 use lib.ListN.{length, take, drop, set, getD, length-set, length-take, length-drop, length-append}
 use denote.Ref.{now}
 use borrow.Author.Needs.{needs}
-use Rattle.content.proofs.Facts.{not-first, first, alone}
+use Rattle.queries.proofs.Place.{not-first, first, alone}
 use Rattle.model.specs.Rules.{query}
 use borrow.Author.Tests.{eq-eqb, ne-eqb, lt-leb, le-leb}
 use Rattle.queries.proofs.queried.Statement.{statement}
@@ -14,7 +14,7 @@ use Rattle.queries.proofs.queried.Tie as tie
 use Rattle.queries.proofs.queried.Reads as reads
 use Rattle.queries.proofs.queried.Lts as lts
 use Rattle.queries.proofs.challenge_given.Reads as challenge-given-reads
-use Rattle.content.proofs.failed_by.Reads as failed-by-reads
+use Rattle.steps.proofs.failed_by.Reads as failed-by-reads
 
 failed-by-requires : tie.Need-failed-by-requires
 failed-by-requires c κs = search needs

@@ -13,7 +13,7 @@ use Rattle.rules.proofs.from_c.Statement.{statement}
 use Rattle.rules.proofs.from_c.Tie as tie
 use Rattle.rules.proofs.from_c.Reads as reads
 use Rattle.rules.proofs.from_c.Lts as lts
-use Rattle.content.proofs.failed_by.Reads as failed-by-reads
+use Rattle.steps.proofs.failed_by.Reads as failed-by-reads
 use Rattle.rules.proofs.from_d.Reads as from-d-reads
 
 failed-by-requires : tie.Need-failed-by-requires

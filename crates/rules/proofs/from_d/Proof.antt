@@ -13,7 +13,7 @@ use Rattle.rules.proofs.from_d.Statement.{statement}
 use Rattle.rules.proofs.from_d.Tie as tie
 use Rattle.rules.proofs.from_d.Reads as reads
 use Rattle.rules.proofs.from_d.Lts as lts
-use Rattle.content.proofs.failed_by.Reads as failed-by-reads
+use Rattle.steps.proofs.failed_by.Reads as failed-by-reads
 use Rattle.rules.proofs.from_e.Reads as from-e-reads
 use Rattle.due.proofs.due_row.Reads as due-row-reads
 

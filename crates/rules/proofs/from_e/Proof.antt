@@ -13,7 +13,7 @@ use Rattle.rules.proofs.from_e.Statement.{statement}
 use Rattle.rules.proofs.from_e.Tie as tie
 use Rattle.rules.proofs.from_e.Reads as reads
 use Rattle.rules.proofs.from_e.Lts as lts
-use Rattle.content.proofs.failed_by.Reads as failed-by-reads
+use Rattle.steps.proofs.failed_by.Reads as failed-by-reads
 use Rattle.values.proofs.from_f.Reads as from-f-reads
 use Rattle.rules.proofs.room_of.Reads as room-of-reads
 

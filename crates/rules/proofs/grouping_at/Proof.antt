@@ -13,7 +13,7 @@ use Rattle.rules.proofs.grouping_at.Tie as tie
 use Rattle.rules.proofs.grouping_at.Reads as reads
 use Rattle.rules.proofs.grouping_at.Lts as lts
 use Rattle.header.proofs.header_at.Reads as header-at-reads
-use Rattle.content.proofs.failed_by.Reads as failed-by-reads
+use Rattle.steps.proofs.failed_by.Reads as failed-by-reads
 use Rattle.rules.proofs.from_b.Reads as from-b-reads
 
 header-at-requires : tie.Need-header-at-requires

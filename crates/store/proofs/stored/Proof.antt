@@ -51,12 +51,12 @@ returns-2 c =
     let w = c .before .before .before .before .before .before .before in
     let s = w .before .before .before .before .before .before .before .args in
     rw (store-command (s .p1) (now (s .d)) (s .c) (now (s .area)) (w .before .before .before .if1 .taken) (w .before .before .if2 .left), ← w .commanded .ensures)
-    (course-told (s .c) (w .commanded .result) _ _ _ _ _ _ _ refl (told-of .ensures _))
+    (told-of .ensures .0, course-told (s .c) (w .commanded .result) _ _ _ _ _ _ _ refl (told-of .ensures .1 _))
 
 returns-3 : tie.Need-returns-3
 returns-3 c =
     let s = c .before .before .before .before .args in
-    rw (store-unselected (s .p1) (now (s .d)) (s .c) (now (s .area)) (c .if1 .left)) (said _ _ _ _)
+    rw (store-unselected (s .p1) (now (s .d)) (s .c) (now (s .area)) (c .if1 .left)) (refl, said _ _ _ _)
 
 pub stored-spec : {M : Type 1} → statement M
 stored-spec =

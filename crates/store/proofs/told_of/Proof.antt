@@ -1,3 +1,4 @@
+use mathlib.Core.Path.{refl}
 use denote.Ref.{now}
 use borrow.Author.Needs.{needs}
 use Rattle.store.proofs.Tellings.{told-went, told-asked, told-failed}
@@ -22,7 +23,7 @@ failed-by-requires c κs = search needs
 returns : tie.Need-returns
 returns c =
     let s = c .before .before .before .args in
-    λ a. told-went (s .c) (s .course) a (now (s .answer)) (c .enum-told .given .1)
+    (refl, λ a. told-went (s .c) (s .course) a (now (s .answer)) (c .enum-told .given .1))
 
 same-length : tie.Need-same-length
 same-length c = search needs
@@ -32,13 +33,14 @@ returns-2 c =
     let laid = c .before .before in
     let arm = laid .before .before .before in
     let s = arm .before .before .before .args in
-    λ a. told-asked (s .c) (s .course) a (arm .course .given .1) (laid .lay-answer .ensures .0) (laid .lay-answer .ensures .1)
+    (refl, λ a. told-asked (s .c) (s .course) a (arm .course .given .1) (laid .lay-answer .ensures .0) (laid .lay-answer .ensures .1))
 
 returns-3 : tie.Need-returns-3
 returns-3 c =
     let arm = c .before .before in
     let s = arm .before .before .before .args in
-    λ a. told-failed (s .c) (s .course) a (now (s .answer)) (arm .course2 .given .1) (c .failed-by .ensures .0) (c .failed-by .ensures .1 a)
+    let told = c .failed-by .ensures in
+    (told .0, λ a. told-failed (s .c) (s .course) a (now (s .answer)) (arm .course2 .given .1) (told .1) (told .2 a))
 
 pub told-of-spec : {M : Type 1} → statement M
 told-of-spec =

@@ -8,7 +8,7 @@ use denote.Ref.{now}
 use borrow.Author.Needs.{needs}
 use Rattle.model.specs.Stored.{paddedZero}
 use Rattle.model.specs.Session.{turnOf}
-use Rattle.brief.proofs.Replies.{plays, refused, zeros-told, loads-kind}
+use Rattle.brief.proofs.Replies.{played, refused, zeros-told, loads-kind}
 use Rattle.turns.proofs.loaded.Statement.{statement}
 use Rattle.turns.proofs.loaded.Tie as tie
 use Rattle.turns.proofs.loaded.Reads as reads
@@ -69,13 +69,14 @@ same-length-2 c = search needs
 returns : tie.Need-returns
 unfolding turnOf paddedZero
 returns c =
-    let two = c .before .before .before .before .before .before .before .before .before .before in
+    let told = c .before .before .before .before .loaded-on .ensures in
+    let two = c .before .before .before .before .before .before .before .before .before in
     let zero = two .before in
     let size = zero .before in
     let one = size .before .before in
     let k : 4 + size .wide .result - 4 ≡ size .wide .result = omega arith in
     rw (← one .before .is-kind .ensures, one .if1 .taken, ← size .wide .ensures .0, ← zero .zero-from .ensures, two .if2 .taken)
-    (plays (rw k at (c .before .before .before .before .before .loaded-on .ensures)))
+    (played (told .0) (rw k at (told .1)))
 
 refused-by-requires : tie.Need-refused-by-requires
 refused-by-requires c κs = search needs

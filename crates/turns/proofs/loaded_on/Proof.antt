@@ -32,7 +32,7 @@ returns c =
     let if2 = c .before .before .before .before .if2 in
     let if1 = c .before .before .before .before .before .before .if1 in
     let s = c .before .before .before .before .before .before .before .before .before .before .before .args in
-    rw (event-stuck (s .kind) (s .p1) (now (s .d)) (s .c) _ (if1 .taken) (if2 .taken)) (stuck-by .ensures _ _)
+    rw (event-stuck (s .kind) (s .p1) (now (s .d)) (s .c) _ (if1 .taken) (if2 .taken)) (stuck-by .ensures .0, stuck-by .ensures .1 _ _)
 
 locked-now-requires : tie.Need-locked-now-requires
 locked-now-requires c κs = search needs
@@ -55,7 +55,7 @@ returns-2 c =
     rw (
       event-locks (s .kind) (s .p1) (now (s .d)) (s .c) _ (one .if1 .taken) (two .if2 .left) (three .if3 .taken),
       ← locks .locked-now .ensures,
-    ) (c .before .before .stuck-by2 .ensures _ _)
+    ) (c .before .before .stuck-by2 .ensures .0, c .before .before .stuck-by2 .ensures .1 _ _)
 
 stored-requires : tie.Need-stored-requires
 stored-requires c κs = search needs

@@ -21,7 +21,7 @@ use Rattle.values.proofs.from_f.Statement.{statement}
 use Rattle.values.proofs.from_f.Tie as tie
 use Rattle.values.proofs.from_f.Reads as reads
 use Rattle.values.proofs.from_f.Lts as lts
-use Rattle.content.proofs.failed_by.Reads as failed-by-reads
+use Rattle.steps.proofs.failed_by.Reads as failed-by-reads
 use Rattle.values.proofs.fits_row.Reads as fits-row-reads
 use Rattle.values.proofs.spanned_at.Reads as spanned-at-reads
 use Rattle.content.proofs.whole_at.Reads as whole-at-reads

@@ -3,9 +3,9 @@ use native.Mathlib.Omega.{arith}
 use lib.ListN.{length, length-append}
 use denote.Ref.{now}
 use borrow.Author.Needs.{needs}
-use Rattle.store.proofs.Tellings.{asks-reference, asks-traceability, asks-states, reference-laid}
-use Rattle.store.proofs.lay_answer.Statement.{statement}
-use Rattle.store.proofs.lay_answer.Tie as tie
+use Rattle.answers.proofs.Asked.{asks-reference, asks-traceability, asks-states, reference-laid}
+use Rattle.answers.proofs.lay_answer.Statement.{statement}
+use Rattle.answers.proofs.lay_answer.Tie as tie
 
 -- the chip's arrays have their lengths
 reference-long : (s : tie.Start) → length (s .args .c .chip .reference) ≡ 4
