@@ -11,12 +11,41 @@ ghost use mathlib.Core.Bool.{false};
 ghost use mathlib.Core.List.{List};
 ghost use Prim.Native.Nat.{ℕ, _+_, _-_, _*_, _≤_, _<_, min};
 ghost use lib.ListN.{length, drop};
+ghost use Rattle.lists.specs.Bytes.{padded};
 ghost use Rattle.model.specs.declared.Verdict.the-variants.{Passes};
 ghost use Rattle.model.specs.Rules.{startupOk, startup, counterOf, kept, whole};
 ghost use Rattle.steps.specs.Steps.{stateOf, stepped, took};
 ghost use Rattle.records.specs.Steps.{Sized};
 
 const FIRST_SECRET_ROW: usize = 6;
+
+// Bytes in an array, with zeros behind them: the serial number, startup information, a secret.
+fn padded8(s: &[u8]) -> [u8; 8]
+    requires { ⌜ length (now s) ≤ 8 ⌝ }
+    ensures { λ r. ⌜ r ≡ padded 8 (now (s .entry)) ⌝ }
+{
+    let mut b = [0u8; 8];
+    slices::lay(&mut b, s);
+    b
+}
+
+fn padded7(s: &[u8]) -> [u8; 7]
+    requires { ⌜ length (now s) ≤ 7 ⌝ }
+    ensures { λ r. ⌜ r ≡ padded 7 (now (s .entry)) ⌝ }
+{
+    let mut b = [0u8; 7];
+    slices::lay(&mut b, s);
+    b
+}
+
+fn padded64(s: &[u8]) -> [u8; 64]
+    requires { ⌜ length (now s) ≤ 64 ⌝ }
+    ensures { λ r. ⌜ r ≡ padded 64 (now (s .entry)) ⌝ }
+{
+    let mut b = [0u8; 64];
+    slices::lay(&mut b, s);
+    b
+}
 
 // '2100': first byte 6 to 55 and last two zero.
 fn is_startup(v: &[u8]) -> bool
@@ -57,7 +86,7 @@ fn startup_kept(l: Loading, capacity: u8, v: &[u8]) -> Taken
                 load: l,
             };
         }
-        let mut bytes = arrays::padded7(v);
+        let mut bytes = padded7(v);
         bytes[0] = smaller(v[0], capacity);
         let mut next = l;
         next.startup = bytes;
@@ -101,7 +130,7 @@ fn kept_as(l: Loading, capacity: u8, row: usize, v: &[u8]) -> Taken
 {
     let mut next = l;
     if row == 2 {
-        next.serial = arrays::padded8(v);
+        next.serial = padded8(v);
         return Taken {
             verdict: Verdict::Passes(0),
             load: next,
@@ -118,7 +147,7 @@ fn kept_as(l: Loading, capacity: u8, row: usize, v: &[u8]) -> Taken
         };
     }
     let at = secret_place(row);
-    let bytes = arrays::padded64(v);
+    let bytes = padded64(v);
     let secret = Secret {
         bytes: bytes,
         len: v.len(),

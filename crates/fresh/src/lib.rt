@@ -8,7 +8,9 @@ use model::Made;
 use model::Open;
 use model::Secret;
 ghost use mathlib.Core.Path.{_≡_};
+ghost use Prim.Native.Nat.{_≤_};
 ghost use lib.ListN.{length};
+ghost use Rattle.lists.specs.Bytes.{padded};
 ghost use Rattle.model.specs.Stored.{chipSize, chipOf, chipForm, freshLoading, freshCard};
 ghost use Rattle.model.specs.Session.{freshOf};
 
@@ -89,12 +91,22 @@ pub fn is_chip(chip: &[u8]) -> bool
     false
 }
 
+// Bytes in an array, with zeros behind them, as `arrays::padded16`.
+fn padded4(s: &[u8]) -> [u8; 4]
+    requires { ⌜ length (now s) ≤ 4 ⌝ }
+    ensures { λ r. ⌜ r ≡ padded 4 (now (s .entry)) ⌝ }
+{
+    let mut b = [0u8; 4];
+    slices::lay(&mut b, s);
+    b
+}
+
 // The chip's facts.
 pub fn chip_of(chip: &[u8]) -> Chip
     requires { ⌜ length (now chip) ≡ chipSize ⌝ }
     ensures { λ r. ⌜ r ≡ chipOf (now (chip .entry)) ⌝ }
 {
-    let reference = arrays::padded4(&chip[..CHALLENGE]);
+    let reference = padded4(&chip[..CHALLENGE]);
     let challenge = arrays::padded16(&chip[CHALLENGE..TRACEABILITY]);
     let traceability = arrays::padded16(&chip[TRACEABILITY..CAPACITY]);
     Chip {

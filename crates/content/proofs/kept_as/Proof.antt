@@ -16,8 +16,8 @@ use Rattle.content.proofs.kept_as.Lts as lts
 use Rattle.content.proofs.counter_in.Reads as counter-in-reads
 use Rattle.content.proofs.secret_place.Reads as secret-place-reads
 use Rattle.content.proofs.startup_kept.Reads as startup-kept-reads
-use Rattle.arrays.proofs.padded64.Reads as padded64-reads
-use Rattle.arrays.proofs.padded8.Reads as padded8-reads
+use Rattle.content.proofs.padded64.Reads as padded64-reads
+use Rattle.content.proofs.padded8.Reads as padded8-reads
 
 padded8-requires : tie.Need-padded8-requires
 padded8-requires c κs = omega (arith, c .before .before .pre .serial (c .if1 .taken))

@@ -17,7 +17,7 @@ use Rattle.content.proofs.startup_kept.Reads as reads
 use Rattle.content.proofs.startup_kept.Lts as lts
 use Rattle.content.proofs.is_startup.Reads as is-startup-reads
 use Rattle.content.proofs.smaller.Reads as smaller-reads
-use Rattle.arrays.proofs.padded7.Reads as padded7-reads
+use Rattle.content.proofs.padded7.Reads as padded7-reads
 
 is-startup-requires : tie.Need-is-startup-requires
 is-startup-requires c κs = search needs

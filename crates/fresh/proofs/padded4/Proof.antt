@@ -7,10 +7,10 @@ use lib.ListN.{length, take, drop, set, getD, length-set, length-take, length-dr
 use denote.Ref.{now}
 use Rattle.lists.specs.Over.{over-padded}
 use borrow.Author.Needs.{needs}
-use Rattle.arrays.proofs.padded4.Statement.{statement}
-use Rattle.arrays.proofs.padded4.Tie as tie
-use Rattle.arrays.proofs.padded4.Reads as reads
-use Rattle.arrays.proofs.padded4.Lts as lts
+use Rattle.fresh.proofs.padded4.Statement.{statement}
+use Rattle.fresh.proofs.padded4.Tie as tie
+use Rattle.fresh.proofs.padded4.Reads as reads
+use Rattle.fresh.proofs.padded4.Lts as lts
 use Rattle.slices.proofs.lay.Reads as lay-reads
 
 slice-aggregate-lay : tie.Need-slice-aggregate-lay
