@@ -8,11 +8,11 @@ use Rattle.show.proofs.show.Tie as tie
 fresh-requires : tie.Need-fresh-requires
 fresh-requires c κs = search needs
 
-slice-aggregate-write-all : tie.Need-slice-aggregate-write-all
-slice-aggregate-write-all c = search needs
+slice-aggregate-write : tie.Need-slice-aggregate-write
+slice-aggregate-write c = search needs
 
-write-all-requires : tie.Need-write-all-requires
-write-all-requires c κs = search needs
+write-requires : tie.Need-write-requires
+write-requires c κs = search needs
 
 returns : tie.Need-returns
 returns c = search needs
@@ -45,11 +45,14 @@ play-all-requires c κs =
     let chip = now (args .chip) in
     (rw (fresh .ensures, clear-area .ensures .0) (fresh-keeps chip), sym (block-buffer .ensures), sym (line-buffer .ensures))
 
-slice-aggregate-show-card : tie.Need-slice-aggregate-show-card
-slice-aggregate-show-card c = search needs
+write-facts-requires : tie.Need-write-facts-requires
+write-facts-requires c κs = search needs
 
-show-card-requires : tie.Need-show-card-requires
-show-card-requires c κs = search needs
+slice-aggregate-write-table : tie.Need-slice-aggregate-write-table
+slice-aggregate-write-table c = search needs
+
+write-table-requires : tie.Need-write-table-requires
+write-table-requires c κs = search needs
 
 returns-2 : tie.Need-returns-2
 returns-2 c = search needs
@@ -59,8 +62,8 @@ show-spec =
     tie.close
     (tie.spec
     fresh-requires
-    slice-aggregate-write-all
-    write-all-requires
+    slice-aggregate-write
+    write-requires
     returns
     clear-area-requires
     block-buffer-requires
@@ -69,6 +72,7 @@ show-spec =
     slice-aggregate-play-all-2
     slice-aggregate-play-all-3
     play-all-requires
-    slice-aggregate-show-card
-    show-card-requires
+    write-facts-requires
+    slice-aggregate-write-table
+    write-table-requires
     returns-2)

@@ -1,17 +1,8 @@
-use Prim.Native.Nat.{ℕ, suc, _+_, _*_, _-_, _≤_, _<_, _/_, _%_}
-use mathlib.Core.Path.{_≡_, refl, ap, sym, _∙_}
-use mathlib.Core.List.{List, [], _∷_, _++_}
 use native.Mathlib.Omega.{arith}
-use native.Mathlib.Numerals.{add-one}
-use lib.ListN.{length, take, drop, set, getD, length-set, length-take, length-drop, length-append}
-use denote.Ref.{now}
+use lib.ListN.{length-take}
 use borrow.Author.Needs.{needs}
-use Rattle.show.proofs.put_number.Statement.{statement}
-use Rattle.show.proofs.put_number.Tie as tie
-use Rattle.show.proofs.put_number.Reads as reads
-use Rattle.show.proofs.put_number.Lts as lts
-use Rattle.digits.proofs.put_number.Reads as put-number-reads
-use Rattle.show.proofs.put.Reads as put-reads
+use Rattle.show.proofs.form.put_number.Statement.{statement}
+use Rattle.show.proofs.form.put_number.Tie as tie
 
 slice-aggregate-put-number : tie.Need-slice-aggregate-put-number
 slice-aggregate-put-number c = search needs

@@ -1,8 +1,8 @@
 use Prim.Native.Nat.{_-_, _≤_}
 use lib.ListN.{length}
 use borrow.Author.Needs.{needs}
-use Rattle.show.proofs.word_for.Statement.{statement}
-use Rattle.show.proofs.word_for.Tie as tie
+use Rattle.show.proofs.form.word_for.Statement.{statement}
+use Rattle.show.proofs.form.word_for.Tie as tie
 
 abbrev Inv-loop : tie.InvT-loop
 Inv-loop words value from₀ i₀ from i = 0 ≤ i

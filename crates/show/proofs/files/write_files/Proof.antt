@@ -1,15 +1,13 @@
 use Prim.Native.Nat.{_-_, _≤_}
-use mathlib.Core.Path.{_≡_}
-use lib.ListN.{length}
 use borrow.Author.Needs.{needs}
-use Rattle.show.proofs.put_files.Statement.{statement}
-use Rattle.show.proofs.put_files.Tie as tie
+use Rattle.show.proofs.files.write_files.Statement.{statement}
+use Rattle.show.proofs.files.write_files.Tie as tie
 
 abbrev Inv-loop : tie.InvT-loop
-Inv-loop out₀ at c area count files to₀ i₀ out to i = (i ≤ count) × length out ≡ length out₀
+Inv-loop c area count files i₀ i = i ≤ count
 
 abbrev μ-loop : tie.MeasureT-loop
-μ-loop out₀ at c area count files to₀ i₀ out to i = count - i
+μ-loop c area count files i₀ i = count - i
 
 loop-holds : tie.Need-loop-holds Inv-loop μ-loop
 loop-holds c = search needs
@@ -20,8 +18,8 @@ mul-d c = search needs
 array-copy-out-d : tie.Need-array-copy-out-d Inv-loop μ-loop
 array-copy-out-d c = search needs
 
-put-file-requires : tie.Need-put-file-requires Inv-loop μ-loop
-put-file-requires c κs = search needs
+write-file-requires : tie.Need-write-file-requires Inv-loop μ-loop
+write-file-requires c κs = search needs
 
 add-i : tie.Need-add-i Inv-loop μ-loop
 add-i c = search needs
@@ -32,14 +30,11 @@ loop-less c = search needs
 loop-again : tie.Need-loop-again Inv-loop μ-loop
 loop-again c = search needs
 
-same-length : tie.Need-same-length Inv-loop μ-loop
-same-length c = search needs
-
 returns : tie.Need-returns Inv-loop μ-loop
 returns c = search needs
 
-pub put-files-spec : {M : Type 1} → statement M
-put-files-spec =
+pub write-files-spec : {M : Type 1} → statement M
+write-files-spec =
     tie.close
     (tie.spec
     Inv-loop
@@ -47,9 +42,8 @@ put-files-spec =
     loop-holds
     mul-d
     array-copy-out-d
-    put-file-requires
+    write-file-requires
     add-i
     loop-less
     loop-again
-    same-length
     returns)

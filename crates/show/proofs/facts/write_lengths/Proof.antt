@@ -1,15 +1,13 @@
 use Prim.Native.Nat.{_-_, _≤_}
-use mathlib.Core.Path.{_≡_}
-use lib.ListN.{length}
 use borrow.Author.Needs.{needs}
-use Rattle.show.proofs.put_lengths.Statement.{statement}
-use Rattle.show.proofs.put_lengths.Tie as tie
+use Rattle.show.proofs.facts.write_lengths.Statement.{statement}
+use Rattle.show.proofs.facts.write_lengths.Tie as tie
 
 abbrev Inv-loop : tie.InvT-loop
-Inv-loop out₀ at secrets to₀ i₀ out to i = (i ≤ 5) × length out ≡ length out₀
+Inv-loop secrets i₀ i = i ≤ 5
 
 abbrev μ-loop : tie.MeasureT-loop
-μ-loop out₀ at secrets to₀ i₀ out to i = 5 - i
+μ-loop secrets i₀ i = 5 - i
 
 loop-holds : tie.Need-loop-holds Inv-loop μ-loop
 loop-holds c = search needs
@@ -23,8 +21,8 @@ mul-s c = search needs
 array-copy-out-s : tie.Need-array-copy-out-s Inv-loop μ-loop
 array-copy-out-s c = search needs
 
-put-length-requires : tie.Need-put-length-requires Inv-loop μ-loop
-put-length-requires c κs = search needs
+write-length-requires : tie.Need-write-length-requires Inv-loop μ-loop
+write-length-requires c κs = search needs
 
 add-i : tie.Need-add-i Inv-loop μ-loop
 add-i c = search needs
@@ -35,14 +33,11 @@ loop-less c = search needs
 loop-again : tie.Need-loop-again Inv-loop μ-loop
 loop-again c = search needs
 
-same-length : tie.Need-same-length Inv-loop μ-loop
-same-length c = search needs
-
 returns : tie.Need-returns Inv-loop μ-loop
 returns c = search needs
 
-pub put-lengths-spec : {M : Type 1} → statement M
-put-lengths-spec =
+pub write-lengths-spec : {M : Type 1} → statement M
+write-lengths-spec =
     tie.close
     (tie.spec
     Inv-loop
@@ -51,9 +46,8 @@ put-lengths-spec =
     cast-s
     mul-s
     array-copy-out-s
-    put-length-requires
+    write-length-requires
     add-i
     loop-less
     loop-again
-    same-length
     returns)
