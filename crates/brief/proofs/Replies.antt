@@ -1,19 +1,19 @@
 -- A reply played, and a refusal; which records change the life at most.
 use Prim.Native.Nat.{ℕ, _+_}
 use mathlib.Core.Path.{_≡_, refl, sym, _∙_}
-use mathlib.Core.Bool.{Bool, true, false, _&&_}
+use mathlib.Core.Bool.{Bool, true, false, cond, not, _&&_}
 use mathlib.Core.List.{List}
-use lib.ListN.{drop}
-use Rattle.lists.specs.Bytes.{byteAt, allZero}
+use native.Mathlib.Omega.{arith}
+use Rattle.lists.specs.Bytes.{byteAt}
 use Rattle.lists.specs.Over.{over-none}
 use Rattle.model.specs.declared.Card.{Card}
 use Rattle.model.specs.declared.Played.{Played}
 use Rattle.model.specs.Stored.{eventIn, isKind, paddedZero}
 use Rattle.model.specs.Events.{Reply, says, event}
-use Rattle.model.specs.Session.{refusedBy, replied, turnOf}
+use Rattle.model.specs.Session.{Turn, refusedBy, replied, turnOf}
 use Rattle.soundness.proofs.Tests.{and-l, and-r}
 use Rattle.fci.specs.Answers.{Answers}
-use Rattle.kinds.specs.Brief.{isBrief, briefTurn}
+use Rattle.kinds.specs.Brief.{fault, faultIn, isBrief, briefTurn}
 use Rattle.brief.specs.Plays.{Plays}
 
 -- a reply played, and a refusal
@@ -43,10 +43,30 @@ not-brief : (k b z : Bool) → (k && (b && z)) ≡ false → k ≡ true → z �
 not-brief k true z e f g = sym (rw (f, g)) ∙ e
 not-brief k false z e f g = refl
 
--- what a test of the bytes from the data's end on says of the record
-pub zeros-told : (r : List ℕ) {n : ℕ} {b : Bool} → n ≡ byteAt r 3 → b ≡ allZero (drop (4 + n) r) → b ≡ true → paddedZero r ≡ true
-unfolding paddedZero
-zeros-told r e f g = rw (← e) (sym f ∙ g)
+-- a record that no number refuses is an event, and its number refuses any other
+no-fault : (k z : Bool) → fault k z ≡ 0 → (k ≡ true) × (z ≡ true)
+unfolding fault
+no-fault true true e = (refl, refl)
+no-fault true false e = absurd (omega arith)
+no-fault false z e = absurd (omega arith)
 
-pub loads-kind : (c : Card) (r : List ℕ) → briefTurn c r ≡ false → isKind (byteAt r 0) ≡ true → paddedZero r ≡ true → isBrief (byteAt r 0) c ≡ false
-loads-kind c r = not-brief (isKind (byteAt r 0)) (isBrief (byteAt r 0) c) (paddedZero r)
+by-fault : (k z : Bool) (c : Card) (a : List ℕ) (x : Turn) → (fault k z ≡ 0 → ⊥)
+    → cond (not k) (refusedBy 4 c a) (cond (not z) (refusedBy 5 c a) x) ≡ refusedBy (fault k z) c a
+unfolding fault
+by-fault true true c a x n = absurd (n refl)
+by-fault true false c a x n = refl
+by-fault false z c a x n = refl
+
+module _ (c : Card) (a r : List ℕ) where
+  pub fault-turn : (faultIn r ≡ 0 → ⊥) → turnOf c a r ≡ refusedBy (faultIn r) c a
+  unfolding turnOf
+  fault-turn n = by-fault (isKind (byteAt r 0)) (paddedZero r) c a _ n
+
+  pub event-turn : faultIn r ≡ 0 → turnOf c a r ≡ replied (event (eventIn r) c a)
+  unfolding turnOf
+  event-turn e = let f = no-fault (isKind (byteAt r 0)) (paddedZero r) e in rw (f .0, f .1)
+
+pub loads-kind : (c : Card) (r : List ℕ) → briefTurn c r ≡ false → faultIn r ≡ 0 → isBrief (byteAt r 0) c ≡ false
+loads-kind c r e f =
+    let g = no-fault (isKind (byteAt r 0)) (paddedZero r) f in
+    not-brief (isKind (byteAt r 0)) (isBrief (byteAt r 0) c) (paddedZero r) e (g .0) (g .1)

@@ -1,7 +1,7 @@
 -- Which events change the life of a card at most: outside '5A', any but STORE DATA on a card that is selected.
 use Prim.Native.Nat.{ℕ}
 use mathlib.Core.Path.{_≡_, refl, sym}
-use mathlib.Core.Bool.{Bool, true, false, not, _&&_, false≢true}
+use mathlib.Core.Bool.{Bool, true, false, cond, not, _&&_, false≢true}
 use mathlib.Core.List.{List}
 use lib.Dec.{eqb}
 use Rattle.lists.specs.Bytes.{byteAt}
@@ -12,6 +12,13 @@ use Rattle.model.specs.Events.{says, storeData}
 -- an event as the code has it
 abbrev pub eventOf : ℕ → ℕ → List ℕ → Event
 eventOf k p b = record { kind = k; p1 = p; bytes = b }
+
+-- "4: kind not 1 to 8"; "5: a byte that must be zero isn't"; 0: the record is an event
+unfoldable pub fault : Bool → Bool → ℕ
+fault kind padded = cond (not kind) 4 (cond (not padded) 5 0)
+
+abbrev pub faultIn : List ℕ → ℕ
+faultIn r = fault (isKind (byteAt r 0)) (paddedZero r)
 
 unfoldable pub brief : Bool → Bool → Bool → Bool
 brief in5A stores selected = not in5A && not (stores && selected)
@@ -51,6 +58,17 @@ module _ (kind : ℕ) (c : Card) where
 
   pub loads-data : isBrief kind c ≡ false → eqb (c .loading .internal) 0x5A ≡ false → eqb kind 2 ≡ true
   loads-data e f = loads (eqb (c .loading .internal) 0x5A) (eqb kind 2) (c .life .selected) e f
+
+-- no number refuses an event, and an event is refused by none
+pub fault-none : (k z : Bool) → eqb (fault k z) 0 ≡ (k && z)
+unfolding fault
+fault-none true true = refl
+fault-none true false = refl
+fault-none false z = refl
+
+pub never-brief : (k z : Bool) → (k && (false && z)) ≡ false
+never-brief true z = refl
+never-brief false z = refl
 
 -- STORE DATA on a card that is not selected
 pub store-unselected : (p1 : ℕ) (d : List ℕ) (c : Card) (a : List ℕ) → c .life .selected ≡ false → storeData p1 d c a ≡ says 0x6985 c a

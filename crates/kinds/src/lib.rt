@@ -5,7 +5,7 @@ ghost use mathlib.Core.Path.{_≡_};
 ghost use Prim.Native.Nat.{_+_, _≤_, _<_};
 ghost use lib.ListN.{length};
 ghost use Rattle.model.specs.Stored.{isKind};
-ghost use Rattle.kinds.specs.Brief.{isBrief, briefTurn};
+ghost use Rattle.kinds.specs.Brief.{faultIn, isBrief, briefTurn};
 
 const DATA_PLACE: usize = 4;
 
@@ -20,13 +20,29 @@ pub fn refused_by(number: u8, c: Card) -> Played
     }
 }
 
-pub fn is_kind(k: u8) -> bool
+fn is_kind(k: u8) -> bool
     ensures { λ r. ⌜ r ≡ isKind k ⌝ }
 {
     if k < 1 {
         return false;
     }
     k <= 8
+}
+
+// The number that refuses a record, or 0 where it is an event: its kind is none (4), a byte that must be zero isn't (5).
+pub fn fault_in(r: &[u8]) -> u8
+    requires { ⌜ length (now r) ≡ 260 ⌝ }
+    ensures { λ n. ⌜ n ≡ faultIn (now (r .entry)) ⌝ }
+{
+    let known = is_kind(r[0]);
+    let padded = bytes::zero_from(r, DATA_PLACE + bytes::wide(r[3]));
+    if !known {
+        return 4;
+    }
+    if !padded {
+        return 5;
+    }
+    0
 }
 
 // Whether an event of this kind changes the life at most.
@@ -49,11 +65,8 @@ pub fn is_brief(c: Card, r: &[u8]) -> bool
     requires { ⌜ length (now r) ≡ 260 ⌝ }
     ensures { λ b. ⌜ b ≡ briefTurn c (now (r .entry)) ⌝ }
 {
-    let k = r[0];
-    if is_kind(k) {
-        if is_brief_kind(c, k) {
-            return bytes::zero_from(r, DATA_PLACE + bytes::wide(r[3]));
-        }
+    if is_brief_kind(c, r[0]) {
+        return fault_in(r) == 0;
     }
     false
 }

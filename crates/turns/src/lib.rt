@@ -83,15 +83,12 @@ pub fn loaded(c: Card, area: &mut [u8], answer: &mut [u8], r: &[u8]) -> Played
     requires { ⌜ Good areaSize c (now area) × (64 ≤ length (now answer)) × (length (now r) ≡ 260) × (briefTurn c (now r) ≡ false) ⌝ }
     ensures { λ x. ⌜ Plays (turnOf c (now (area .entry)) (now (r .entry))) x (now (area .exit)) (now (answer .entry)) (now (answer .exit)) ⌝ }
 {
-    let kind = r[0];
-    if kinds::is_kind(kind) {
-        let end = DATA_PLACE + bytes::wide(r[3]);
-        if bytes::zero_from(r, end) {
-            return loaded_on(c, area, answer, kind, r[1], &r[DATA_PLACE..end]);
-        }
-        return kinds::refused_by(5, c);
+    let number = kinds::fault_in(r);
+    if number != 0 {
+        return kinds::refused_by(number, c);
     }
-    kinds::refused_by(4, c)
+    let end = DATA_PLACE + bytes::wide(r[3]);
+    loaded_on(c, area, answer, r[0], r[1], &r[DATA_PLACE..end])
 }
 
 // One record on a sound card.

@@ -1,17 +1,7 @@
-use Prim.Native.Nat.{ℕ, suc, _+_, _*_, _-_, _≤_, _<_, _/_, _%_}
-use mathlib.Core.Path.{_≡_, refl, ap, sym, _∙_}
-use mathlib.Core.List.{List, [], _∷_, _++_}
-use native.Mathlib.Omega.{arith}
-use native.Mathlib.Numerals.{add-one}
-use lib.ListN.{length, take, drop, set, getD, length-set, length-take, length-drop, length-append}
-use denote.Ref.{now}
-use borrow.Author.Needs.{needs}
 use borrow.Author.Tests.{eq-eqb, ne-eqb}
 use Rattle.kinds.specs.Brief.{brief}
 use Rattle.kinds.proofs.is_brief_kind.Statement.{statement}
 use Rattle.kinds.proofs.is_brief_kind.Tie as tie
-use Rattle.kinds.proofs.is_brief_kind.Reads as reads
-use Rattle.kinds.proofs.is_brief_kind.Lts as lts
 
 returns : tie.Need-returns
 unfolding brief
