@@ -141,8 +141,7 @@ pub fn row_of(tag: u16) -> usize
 {
     let mut i: usize = 0;
     while i < ROW_COUNT {
-        let row = ROWS[i];
-        if has_tag(row, tag) {
+        if has_tag(row_at(i + 1), tag) {
             return i + 1;
         }
         i += 1;
@@ -155,7 +154,7 @@ fn lacks(rows: u16, k: usize) -> bool
     requires { ⌜ k < 11 ⌝ }
     ensures { λ x. ⌜ x ≡ lacking rows k ⌝ }
 {
-    let row = ROWS[k];
+    let row = row_at(k + 1);
     if row.mandatory {
         if sets::is_taken(rows, k + 1) {
             return false;

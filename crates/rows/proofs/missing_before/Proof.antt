@@ -1,18 +1,12 @@
-use Prim.Native.Nat.{ℕ, suc, _+_, _*_, _-_, _≤_, _<_, _/_, _%_}
-use mathlib.Core.Path.{_≡_, refl, ap, sym, _∙_}
-use mathlib.Core.List.{List, [], _∷_, _++_}
+use Prim.Native.Nat.{_+_, _-_, _≤_}
+use mathlib.Core.Path.{_≡_, sym, _∙_}
 use native.Mathlib.Omega.{arith}
-use native.Mathlib.Numerals.{add-one}
-use lib.ListN.{length, take, drop, set, getD, length-set, length-take, length-drop, length-append}
-use denote.Ref.{now}
+use lib.ListN.{take, drop}
 use borrow.Author.Needs.{needs}
 use Rattle.rows.proofs.Missing.{missing-step, missing-end}
 use Rattle.model.specs.Rows.{rowTable, missingFrom}
 use Rattle.rows.proofs.missing_before.Statement.{statement}
 use Rattle.rows.proofs.missing_before.Tie as tie
-use Rattle.rows.proofs.missing_before.Reads as reads
-use Rattle.rows.proofs.missing_before.Lts as lts
-use Rattle.rows.proofs.lacks.Reads as lacks-reads
 
 abbrev Inv-loop : tie.InvT-loop
 Inv-loop rows n k₀ k = (k ≤ n) × (missingFrom rows 1 (take n rowTable) ≡ missingFrom rows (k + 1) (drop k (take n rowTable)))
