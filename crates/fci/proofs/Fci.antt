@@ -11,15 +11,9 @@ use Rattle.model.specs.Events.{nameFci, fullFci}
 use Rattle.fci.specs.Answers.{front}
 
 -- 6F, a length, 84, n and the name, by the equation of each store
-pub front-laid : (a name : List ℕ) (l n : ℕ) {a1 a2 a3 a4 a5 : List ℕ}
-    → a1 ≡ overwrite a 0 (0x6F ∷ []) → a2 ≡ overwrite a1 1 (l ∷ []) → a3 ≡ overwrite a2 2 (0x84 ∷ []) → a4 ≡ overwrite a3 3 (n ∷ [])
-    → a5 ≡ overwrite a4 4 name
-    → a5 ≡ overwrite a 0 (0x6F ∷ l ∷ 0x84 ∷ n ∷ name)
-front-laid a name l n e1 e2 e3 e4 e5 =
-    cc (over-then (0x6F ∷ []) (l ∷ 0x84 ∷ n ∷ name) a 0 1 refl
-    ∙ over-then (l ∷ []) (0x84 ∷ n ∷ name) _ 1 2 refl
-    ∙ over-then (0x84 ∷ []) (n ∷ name) _ 2 3 refl
-    ∙ over-then (n ∷ []) name _ 3 4 refl)
+pub front-laid : (a name : List ℕ) (l n : ℕ) {a1 a2 : List ℕ} → a1 ≡ overwrite a 0 (0x6F ∷ l ∷ 0x84 ∷ n ∷ []) → a2 ≡ overwrite a1 4 name
+    → a2 ≡ overwrite a 0 (0x6F ∷ l ∷ 0x84 ∷ n ∷ name)
+front-laid a name l n e1 e2 = cc (over-then (0x6F ∷ l ∷ 0x84 ∷ n ∷ []) name a 0 4 refl)
 
 -- the full FCI's fixed tags
 abbrev pub serialTags : List ℕ

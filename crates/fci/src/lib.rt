@@ -15,10 +15,8 @@ fn lay_front(answer: &mut [u8], life: Life, more: usize)
 {
     let name = life.name;
     let n = life.namelen;
-    slices::put_bytes(answer, 0, b"\x6F");
-    slices::put_byte(answer, 1, (n + more) as u8);
-    slices::put_bytes(answer, 2, b"\x84");
-    slices::put_byte(answer, 3, n as u8);
+    let head = [0x6F, (n + more) as u8, 0x84, n as u8];
+    slices::put_bytes(answer, 0, &head);
     slices::put_bytes(answer, 4, &name[..n]);
 }
 
