@@ -109,10 +109,7 @@ pub fn installed_by(c: Card, area: &mut [u8], p1: u8, d: &[u8]) -> Lived
     if p1 == 0x08 {
         return made_selectable(c, d);
     }
-    if p1 == 0x04 {
-        return installed(c, area, p1, d);
-    }
-    if p1 == 0x0C {
+    if p1 == 0x04 || p1 == 0x0C {
         return installed(c, area, p1, d);
     }
     let life = c.life;
