@@ -15,7 +15,7 @@ use Rattle.model.specs.declared.Pulled.the-variants.{Ended, Broken, Grouping}
 use Rattle.model.specs.Header.{headerOf}
 use Rattle.model.specs.Order.{pulledAt, pullOf}
 use Rattle.reader.specs.Reads.{foundBy, foundAt}
-use Rattle.reader.proofs.Units.{Within, header-within}
+use Rattle.header.proofs.Units.{Within, header-within}
 
 -- from its place on, and within n bytes
 abbrev Ahead : ℕ → ℕ → Pulled → Type 0

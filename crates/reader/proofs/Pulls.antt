@@ -17,7 +17,7 @@ use Rattle.model.specs.declared.Pulled.the-variants.{Ended, Broken, Grouping}
 use Rattle.model.specs.Header.{headerOf}
 use Rattle.model.specs.Order.{pulledAt, pullOf}
 use Rattle.reader.specs.Reads.{foundBy, foundAt}
-use Rattle.reader.proofs.Units.{whole-within}
+use Rattle.header.proofs.Units.{whole-within}
 
 module _ (order : List ℕ) (at : ℕ) where
   pub pull-end : length order ≤ at → pullOf order at ≡ Ended

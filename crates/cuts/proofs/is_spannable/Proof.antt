@@ -7,7 +7,7 @@ use lib.ListN.{length, take, drop, set, getD, length-set, length-take, length-dr
 use denote.Ref.{now}
 use borrow.Author.Needs.{needs}
 use Rattle.rows.proofs.Records.{record-spans}
-use Rattle.reader.proofs.Units.{unknown-whole}
+use Rattle.header.proofs.Units.{unknown-whole}
 use Rattle.cuts.proofs.is_spannable.Statement.{statement}
 use Rattle.cuts.proofs.is_spannable.Tie as tie
 use Rattle.cuts.proofs.is_spannable.Reads as reads

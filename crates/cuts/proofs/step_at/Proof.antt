@@ -4,7 +4,7 @@ use lib.ListN.{drop, length-drop}
 use denote.Ref.{now}
 use borrow.Author.Needs.{needs}
 use Rattle.cuts.proofs.Stepping.{step-inside, step-head}
-use Rattle.reader.proofs.Units.{whole-within}
+use Rattle.header.proofs.Units.{whole-within}
 use Rattle.model.specs.declared.Header.the-variants.{Torn, Whole}
 use Rattle.cuts.proofs.step_at.Statement.{statement}
 use Rattle.cuts.proofs.step_at.Tie as tie
