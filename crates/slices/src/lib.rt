@@ -1,7 +1,6 @@
 // Lent memory: bytes laid over others, and cleared.
 ghost use mathlib.Core.Path.{_≡_};
-ghost use mathlib.Core.List.{_∷_, []};
-ghost use Prim.Native.Nat.{_+_, _≤_, _<_};
+ghost use Prim.Native.Nat.{_+_, _≤_};
 ghost use lib.ListN.{length};
 ghost use Rattle.lists.specs.Bytes.{zeros};
 ghost use Rattle.lists.specs.Over.{overwrite};
@@ -24,13 +23,6 @@ pub fn put_bytes(dst: &mut [u8], at: usize, src: &[u8])
     ensures { λ _. ⌜ now (dst .exit) ≡ overwrite (now (dst .entry)) at (now (src .entry)) ⌝ }
 {
     lay(&mut dst[at..], src);
-}
-
-pub fn put_byte(dst: &mut [u8], at: usize, b: u8)
-    requires { ⌜ at < length (now dst) ⌝ }
-    ensures { λ _. ⌜ now (dst .exit) ≡ overwrite (now (dst .entry)) at (b ∷ []) ⌝ }
-{
-    dst[at] = b;
 }
 
 // Zeros all over.

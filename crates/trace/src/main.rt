@@ -42,6 +42,12 @@ fn at_most(n: usize, most: usize) -> usize
 
 // Every `put` function writes from `at` on and gives the place behind; its bound is what the room is counted from.
 
+fn put_char(out: &mut [u8], at: usize, c: u8)
+    requires { ⌜ at < length (now out) ⌝ }
+{
+    out[at] = c;
+}
+
 // An empty field.
 fn put_none(out: &mut [u8], at: usize) -> usize
     requires { ⌜ at + 2 ≤ length (now out) ⌝ }
@@ -61,7 +67,7 @@ fn put_front(out: &mut [u8], at: usize, bytes: &[u8], n: usize) -> usize
         return put_none(out, at);
     }
     let k = at_most(n, bytes.len());
-    slices::put_byte(out, at, BLANK);
+    put_char(out, at, BLANK);
     hex::put_hex(out, at + 1, &bytes[..k])
 }
 
@@ -86,7 +92,7 @@ fn put_count(out: &mut [u8], at: usize, mark: u8, n: u64) -> usize
     requires { ⌜ at + 21 ≤ length (now out) ⌝ }
     ensures { λ r. ⌜ r ≤ at + 21 ⌝ }
 {
-    slices::put_byte(out, at, mark);
+    put_char(out, at, mark);
     digits::put_number(out, at + 1, n)
 }
 
@@ -208,7 +214,7 @@ fn put_table(out: &mut [u8], at: usize, files: [Descriptor; 31], count: usize) -
     if count == 0 {
         return put_none(out, to);
     }
-    slices::put_byte(out, to, BLANK);
+    put_char(out, to, BLANK);
     put_descriptors(out, to + 1, files, at_most(count, TABLE_LIMIT))
 }
 

@@ -17,8 +17,8 @@ returns c = search needs
 at-most-requires : tie.Need-at-most-requires
 at-most-requires c κs = search needs
 
-put-byte-requires : tie.Need-put-byte-requires
-put-byte-requires c κs = search needs
+put-char-requires : tie.Need-put-char-requires
+put-char-requires c κs = search needs
 
 add-put-hex : tie.Need-add-put-hex
 add-put-hex c = search needs
@@ -48,7 +48,7 @@ put-front-spec =
     same-length
     returns
     at-most-requires
-    put-byte-requires
+    put-char-requires
     add-put-hex
     slice-aggregate-put-hex
     put-hex-requires
