@@ -1,13 +1,8 @@
 // The register: records played one after the other, and a line for each.
 use model::Card;
-ghost use mathlib.Core.Path.{_≡_};
 ghost use Prim.Native.Nat.{_+_, _*_, _/_, _≤_, _<_};
 ghost use lib.ListN.{length};
-ghost use Rattle.lists.specs.Bytes.{byteAt};
-ghost use Rattle.lists.specs.Over.{overwrite};
 ghost use Rattle.model.specs.Stored.{areaSize};
-ghost use Rattle.model.specs.Session.{turnOf};
-ghost use Rattle.model.specs.Lines.{lineOf};
 ghost use Rattle.soundness.specs.Keeps.{Good};
 ghost use Rattle.register.specs.Entries.{enteredOf, Enters};
 
@@ -25,13 +20,17 @@ pub struct Entered {
 }
 
 // Whole records end to end: each is played, and its line written behind the others.
-pub fn enter_all(c: Card, area: &mut [u8], records: &[u8], count: u64, out: &mut [u8]) -> Entered
+pub fn enter_all(
+    mut c: Card,
+    area: &mut [u8],
+    records: &[u8],
+    mut count: u64,
+    out: &mut [u8],
+) -> Entered
     requires { ⌜ Good areaSize c (now area) × (count < 100000) × (length (now records) / 260 * 26 ≤ length (now out)) ⌝ }
     ensures { λ r. ⌜ Good areaSize (r .card) (now (area .exit)) × (r .count < 100000) × Enters (enteredOf (length (now (records .entry)) / 260) count c (now (area .entry)) (now (records .entry))) (r .card) (now (area .exit)) (r .count) (now (out .entry)) (now (out .exit)) ⌝ }
 {
     let mut answer = [0u8; 64];
-    let mut card = c;
-    let mut n = count;
     let mut i: usize = 0;
     let k = records.len() / RECORD_SIZE;
     while i < k {
@@ -39,33 +38,33 @@ pub fn enter_all(c: Card, area: &mut [u8], records: &[u8], count: u64, out: &mut
         let r = &records[from..from + RECORD_SIZE];
         let mut number: u8 = 0;
         let mut word: u16 = 0x0000;
-        if kinds::is_brief(card, r) {
-            let x = brief::lived(card, area, &mut answer, r);
+        if kinds::is_brief(c, r) {
+            let x = brief::lived(c, area, &mut answer, r);
             word = x.word;
             let life = x.life;
-            card.life = life;
+            c.life = life;
         } else {
-            let x = turns::loaded(card, area, &mut answer, r);
+            let x = turns::loaded(c, area, &mut answer, r);
             number = x.number;
             word = x.word;
-            card = x.card;
+            c = x.card;
         }
-        n = (n + 1) % NUMBERS;
+        count = (count + 1) % NUMBERS;
         lines::put_line(
             out,
             i * LINE_SIZE,
-            n,
+            count,
             r[0],
             number,
             word,
-            card.life.gp,
-            card.loading.internal,
-            card.loading.rows,
+            c.life.gp,
+            c.loading.internal,
+            c.loading.rows,
         );
         i += 1;
     }
     Entered {
-        card: card,
-        count: n,
+        card: c,
+        count: count,
     }
 }

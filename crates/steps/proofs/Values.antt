@@ -135,18 +135,6 @@ table-fails d at i end w s t h g e =
     let k : end - at ≡ (i - at) + (end - i) = omega arith in
     rw (k, take-add (i - at) (end - i) (drop at d), table-append, e)
 
--- bytes up to a descriptor's last, held
-pub table-filled : (d : List ℕ) (at held m : ℕ) (l next : Loading) (a : List ℕ) → l .pending ≡ Table held m → held < 18
-    → at + (17 - held) ≤ length d
-    → next ≡ withOpen (Table 17 (m - (17 - held))) (overwrite (l .held) held (part d at (at + (17 - held) - at))) l
-    → tableBytes (part d at (at + (17 - held) - at)) (stateOf l a) ≡ went 0 (stateOf next a)
-table-filled d at held m l next a o h g e =
-    let v = part d at (at + (17 - held) - at) in
-    let x : at + (17 - held) - at ≡ 17 - held = omega arith in
-    let n : length v ≡ 17 - held = length-take-le (at + (17 - held) - at) (drop at d) (rw length-drop (omega arith)) ∙ x in
-    let k : held + (17 - held) ≡ 17 = omega arith in
-    table-held v l a held m o (omega arith) ∙ rw (n, k, e)
-
 -- bytes taken up to a place: the rest of them goes on from there
 pub table-passes-on : (d : List ℕ) (at i end : ℕ) (s t : State) → at ≤ i → i ≤ end → tableBytes (part d at (i - at)) s ≡ went 0 t
     → tableBytes (part d at (end - at)) s ≡ tableBytes (part d i (end - i)) t

@@ -1,10 +1,4 @@
-use Prim.Native.Nat.{ℕ, suc, _+_, _*_, _-_, _≤_, _<_, _/_, _%_}
-use mathlib.Core.Path.{_≡_, refl, ap, sym, _∙_}
-use mathlib.Core.List.{List, [], _∷_, _++_}
-use native.Mathlib.Omega.{arith}
-use native.Mathlib.Numerals.{add-one}
-use lib.ListN.{length, take, drop, set, getD, length-set, length-take, length-drop, length-append}
-use denote.Ref.{now}
+use mathlib.Core.Path.{_∙_}
 use borrow.Author.Needs.{needs}
 use Rattle.model.specs.Rules.{fed}
 use Rattle.soundness.proofs.Opened.{sound-record}
@@ -12,10 +6,6 @@ use Rattle.steps.specs.Steps.{activeLife}
 use Rattle.steps.proofs.Values.{sure-table, sure-count}
 use Rattle.feed.proofs.fed_first.Statement.{statement}
 use Rattle.feed.proofs.fed_first.Tie as tie
-use Rattle.feed.proofs.fed_first.Reads as reads
-use Rattle.feed.proofs.fed_first.Lts as lts
-use Rattle.laying.proofs.record_fed.Reads as record-fed-reads
-use Rattle.feed.proofs.table_fed.Reads as table-fed-reads
 
 enum-told : tie.Need-enum-told
 enum-told c = search needs

@@ -1,9 +1,7 @@
-use Prim.Native.Nat.{ℕ, suc, _+_, _*_, _-_, _≤_, _<_, _/_, _%_}
+use Prim.Native.Nat.{_+_, _*_, _-_, _≤_, _<_, _/_}
 use mathlib.Core.Path.{_≡_, refl, ap, sym, _∙_}
-use mathlib.Core.List.{List, [], _∷_, _++_}
 use native.Mathlib.Omega.{arith}
-use native.Mathlib.Numerals.{add-one}
-use lib.ListN.{length, take, drop, set, getD, length-set, length-take, length-drop, length-append}
+use lib.ListN.{length, take, drop, length-take, length-drop}
 use denote.Ref.{now}
 use borrow.Author.Needs.{needs}
 use native.Mathlib.Nat.{add-sub-cancel-left}
@@ -13,19 +11,13 @@ use Rattle.register.specs.Entries.{enteredOf, Enters}
 use Rattle.register.proofs.Entries.{enters-none, enters-good, enters-more}
 use Rattle.register.proofs.enter_all.Statement.{statement}
 use Rattle.register.proofs.enter_all.Tie as tie
-use Rattle.register.proofs.enter_all.Reads as reads
-use Rattle.register.proofs.enter_all.Lts as lts
-use Rattle.lines.proofs.put_line.Reads as put-line-reads
-use Rattle.kinds.proofs.is_brief.Reads as is-brief-reads
-use Rattle.brief.proofs.lived.Reads as lived-reads
-use Rattle.turns.proofs.loaded.Reads as loaded-reads
 
 abbrev Inv-loop : tie.InvT-loop
-Inv-loop area₀ records count out₀ answer₀ card₀ n₀ i₀ k area out answer card n i =
-    Enters (enteredOf i count card₀ area₀ records) card area n out₀ out × (length out ≡ length out₀) × (length answer ≡ 64) × (n < 100000) × (i ≤ k)
+Inv-loop c₀ area₀ records count₀ out₀ answer₀ i₀ k c area count out answer i =
+    Enters (enteredOf i count₀ c₀ area₀ records) c area count out₀ out × (length out ≡ length out₀) × (length answer ≡ 64) × (count < 100000) × (i ≤ k)
 
 abbrev μ-loop : tie.MeasureT-loop
-μ-loop area₀ records count out₀ answer₀ card₀ n₀ i₀ k area out answer card n i = k - i
+μ-loop c₀ area₀ records count₀ out₀ answer₀ i₀ k c area count out answer i = k - i
 
 loop-holds : tie.Need-loop-holds Inv-loop μ-loop
 loop-holds c = (enters-none _ _ _ _ _, refl, refl, omega arith, omega arith)
@@ -70,18 +62,18 @@ loaded-requires c κs =
 played : (c : tie.Joined1 Inv-loop μ-loop) → (
     let l = c .before .before .before .before .loop in
     let b = now (c .before .before .before .before .before .before .before .before .args .records) in
-    let t = turnOf (l .card) (l .area) (take (l .i * 260 + 260 - l .i * 260) (drop (l .i * 260) b)) in
-    (c .if1 .card ≡ t .card) × (c .if1 .area ≡ t .area) × (c .if1 .number ≡ t .number) × (c .if1 .word ≡ t .word) × (length (c .if1 .answer) ≡ 64)
+    let t = turnOf (l .c) (l .area) (take (l .i * 260 + 260 - l .i * 260) (drop (l .i * 260) b)) in
+    (c .if1 .c ≡ t .card) × (c .if1 .area ≡ t .area) × (c .if1 .number ≡ t .number) × (c .if1 .word ≡ t .word) × (length (c .if1 .answer) ≡ 64)
     )
 played c =
     let l = c .before .before .before .before .loop in
     ⊎-elim
-    (λ w. let x = w .3 .ensures in (w .10 ∙ x .leaves, w .8 ∙ x .keeps, w .11 ∙ x .numbers, w .12 ∙ x .says, ap length (w .9) ∙ w .3 .kept .1 .1 .0 ∙ l .inv .2))
-    (λ w. let x = w .3 .ensures in (w .10 ∙ x .leaves, w .8 ∙ x .keeps, w .11 ∙ x .numbers, w .12 ∙ x .says, ap length (w .9) ∙ w .3 .kept .1 .1 .0 ∙ l .inv .2))
+    (λ w. let x = w .3 .ensures in (w .8 ∙ x .leaves, w .9 ∙ x .keeps, w .11 ∙ x .numbers, w .12 ∙ x .says, ap length (w .10) ∙ w .3 .kept .1 .1 .0 ∙ l .inv .2))
+    (λ w. let x = w .3 .ensures in (w .8 ∙ x .leaves, w .9 ∙ x .keeps, w .11 ∙ x .numbers, w .12 ∙ x .says, ap length (w .10) ∙ w .3 .kept .1 .1 .0 ∙ l .inv .2))
     (c .if1 .came)
 
-add-n : tie.Need-add-n Inv-loop μ-loop
-add-n c = search needs
+add-count : tie.Need-add-count Inv-loop μ-loop
+add-count c = search needs
 
 mul-put-line : tie.Need-mul-put-line Inv-loop μ-loop
 mul-put-line c = search needs
@@ -149,7 +141,7 @@ enter-all-spec =
     lived-requires
     slice-aggregate-loaded
     loaded-requires
-    add-n
+    add-count
     mul-put-line
     shared-slice-read-put-line
     put-line-requires
