@@ -8,7 +8,7 @@ ghost use Prim.Native.Nat.{ℕ};
 ghost use Rattle.model.specs.Events.{says, locked, errs};
 
 // Locking: '87', not selected, an open value dropped.
-pub fn locked_now(c: Card) -> Card
+pub fn locked_now(mut c: Card) -> Card
     ensures { λ r. ⌜ r ≡ locked c ⌝ }
 {
     let mut life = c.life;
@@ -17,10 +17,9 @@ pub fn locked_now(c: Card) -> Card
     let load = c.loading;
     let none = [0u8; 18];
     let shut = steps::with_open(load, Open::Shut, none);
-    let mut next = c;
-    next.life = life;
-    next.loading = shut;
-    next
+    c.life = life;
+    c.loading = shut;
+    c
 }
 
 // An error of a command: in '5A' it locks.

@@ -38,16 +38,14 @@ fn play_block(c: Card, area: &mut [u8], count: u64, block: &mut [u8], lines: &mu
 }
 
 // The loop counts its turns down from a number that no run uses up, since nothing says that an input ends.
-fn play_all(c: Card, area: &mut [u8], block: &mut [u8], lines: &mut [u8]) -> u64
+fn play_all(mut c: Card, area: &mut [u8], block: &mut [u8], lines: &mut [u8]) -> u64
     requires { ⌜ Good areaSize c (now area) × (length (now block) ≡ 16380) × (length (now lines) ≡ 1638) ⌝ }
 {
-    let mut card = c;
     let mut count: u64 = 0;
     let mut turns = u64::MAX;
     while 0 < turns {
-        let b = play_block(card, area, count, block, lines);
-        let next = b.card;
-        card = next;
+        let b = play_block(c, area, count, block, lines);
+        c = b.card;
         count = b.count;
         if b.more {
             turns -= 1;

@@ -58,11 +58,10 @@ pub fn with_open(l: Loading, o: Open, held: [u8; 18]) -> Loading
     }
 }
 
-pub fn with_taken(l: Loading, r: usize) -> Loading
+pub fn with_taken(mut l: Loading, r: usize) -> Loading
     requires { ⌜ (1 ≤ r) × (r ≤ 11) ⌝ }
     ensures { λ x. ⌜ x ≡ withTaken r l ⌝ }
 {
-    let mut next = l;
-    next.rows = sets::with_row(l.rows, r);
-    next
+    l.rows = sets::with_row(l.rows, r);
+    l
 }

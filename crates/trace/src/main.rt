@@ -355,32 +355,30 @@ fn trace_one(
 }
 
 // Whole records end to end: each is played, and its line written behind the others.
-fn trace_all(c: Card, area: &mut [u8], records: &[u8], out: &mut [u8]) -> Traced
+fn trace_all(mut c: Card, area: &mut [u8], records: &[u8], out: &mut [u8]) -> Traced
     requires { ⌜ Good areaSize c (now area) × (length (now records) / 260 * 2200 ≤ length (now out)) ⌝ }
     ensures { λ r. ⌜ Good areaSize (r .card) (now (area .exit)) × (r .end ≤ length (now (out .exit))) ⌝ }
 {
     let mut answer = [0u8; 64];
-    let mut card = c;
     let mut end: usize = 0;
     let mut i: usize = 0;
     let k = records.len() / register::RECORD_SIZE;
     while i < k {
         let from = i * register::RECORD_SIZE;
         let t = trace_one(
-            card,
+            c,
             area,
             &mut answer,
             &records[from..from + register::RECORD_SIZE],
             out,
             end,
         );
-        let next = t.card;
-        card = next;
+        c = t.card;
         end = t.end;
         i += 1;
     }
     Traced {
-        card: card,
+        card: c,
         end: end,
     }
 }
@@ -408,15 +406,13 @@ fn trace_block(c: Card, area: &mut [u8], block: &mut [u8], lines: &mut [u8]) -> 
 }
 
 // The loop counts its turns down from a number that no run uses up, since nothing says that an input ends.
-fn trace_blocks(c: Card, area: &mut [u8], block: &mut [u8], lines: &mut [u8])
+fn trace_blocks(mut c: Card, area: &mut [u8], block: &mut [u8], lines: &mut [u8])
     requires { ⌜ Good areaSize c (now area) × (length (now block) ≡ 6240) × (length (now lines) ≡ 52800) ⌝ }
 {
-    let mut card = c;
     let mut turns = u64::MAX;
     while 0 < turns {
-        let b = trace_block(card, area, block, lines);
-        let next = b.card;
-        card = next;
+        let b = trace_block(c, area, block, lines);
+        c = b.card;
         if b.more {
             turns -= 1;
         } else {

@@ -15,11 +15,11 @@ use Rattle.replay.proofs.play_all.Lts as lts
 use Rattle.replay.proofs.play_block.Reads as play-block-reads
 
 abbrev Inv-loop : tie.InvT-loop
-Inv-loop area₀ block₀ lines₀ card₀ count₀ turns₀ area block lines card count turns =
-    Good areaSize card area × (count < 100000) × (length area ≡ length area₀) × (length block ≡ length block₀) × (length lines ≡ length lines₀)
+Inv-loop c₀ area₀ block₀ lines₀ count₀ turns₀ c area block lines count turns =
+    Good areaSize c area × (count < 100000) × (length area ≡ length area₀) × (length block ≡ length block₀) × (length lines ≡ length lines₀)
 
 abbrev μ-loop : tie.MeasureT-loop
-μ-loop area₀ block₀ lines₀ card₀ count₀ turns₀ area block lines card count turns = turns
+μ-loop c₀ area₀ block₀ lines₀ count₀ turns₀ c area block lines count turns = turns
 
 loop-holds : tie.Need-loop-holds Inv-loop μ-loop
 loop-holds c = (c .before .before .before .pre .0, omega arith, refl, refl, refl)

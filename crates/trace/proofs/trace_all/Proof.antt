@@ -10,11 +10,11 @@ use Rattle.trace.proofs.trace_all.Statement.{statement}
 use Rattle.trace.proofs.trace_all.Tie as tie
 
 abbrev Inv-loop : tie.InvT-loop
-Inv-loop area₀ records out₀ answer₀ card₀ end₀ i₀ k area out answer card end i =
-    Good areaSize card area × (length area ≡ length area₀) × (length out ≡ length out₀) × (length answer ≡ 64) × (i ≤ k) × (end ≤ i * 2200)
+Inv-loop c₀ area₀ records out₀ answer₀ end₀ i₀ k c area out answer end i =
+    Good areaSize c area × (length area ≡ length area₀) × (length out ≡ length out₀) × (length answer ≡ 64) × (i ≤ k) × (end ≤ i * 2200)
 
 abbrev μ-loop : tie.MeasureT-loop
-μ-loop area₀ records out₀ answer₀ card₀ end₀ i₀ k area out answer card end i = k - i
+μ-loop c₀ area₀ records out₀ answer₀ end₀ i₀ k c area out answer end i = k - i
 
 loop-holds : tie.Need-loop-holds Inv-loop μ-loop
 loop-holds c = (c .before .before .before .pre .0, refl, refl, refl, omega arith, omega arith)

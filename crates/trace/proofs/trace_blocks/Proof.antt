@@ -7,11 +7,11 @@ use Rattle.trace.proofs.trace_blocks.Statement.{statement}
 use Rattle.trace.proofs.trace_blocks.Tie as tie
 
 abbrev Inv-loop : tie.InvT-loop
-Inv-loop area₀ block₀ lines₀ card₀ turns₀ area block lines card turns =
-    Good areaSize card area × (length area ≡ length area₀) × (length block ≡ length block₀) × (length lines ≡ length lines₀)
+Inv-loop c₀ area₀ block₀ lines₀ turns₀ c area block lines turns =
+    Good areaSize c area × (length area ≡ length area₀) × (length block ≡ length block₀) × (length lines ≡ length lines₀)
 
 abbrev μ-loop : tie.MeasureT-loop
-μ-loop area₀ block₀ lines₀ card₀ turns₀ area block lines card turns = turns
+μ-loop c₀ area₀ block₀ lines₀ turns₀ c area block lines turns = turns
 
 loop-holds : tie.Need-loop-holds Inv-loop μ-loop
 loop-holds c = search needs
