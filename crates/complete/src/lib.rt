@@ -50,14 +50,12 @@ fn passes_behind(capacity: u8, d: &[u8]) -> bool
     requires { ⌜ 3 ≤ length (now d) ⌝ }
     ensures { λ r. ⌜ r ≡ passesBehind capacity (now (d .entry)) ⌝ }
 {
-    let fresh = fresh::fresh_loading();
-    let load = steps::with_taken(fresh, CHALLENGE_ROW);
+    let load = steps::with_taken(fresh::fresh_loading(), CHALLENGE_ROW);
     let mut area = [0u8; 4096];
     let s = load::walked(load, &mut area, capacity, 0x00, d, FRONT_SIZE);
-    let end = s.load;
     let course = s.course;
     match course {
-        Course::Went(_) => is_ready(end),
+        Course::Went(_) => is_ready(s.load),
         Course::Asked(_) => false,
         Course::Failed(_) => false,
     }

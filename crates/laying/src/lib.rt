@@ -17,15 +17,15 @@ ghost use Rattle.steps.specs.Steps.{stateOf, stepped};
 const RECORD_ROW: usize = 11;
 
 // A record's value that misses so much: taken whole, or still open.
-fn record_done(l: Loading, tag: u16, written: usize, missing: usize) -> Loading
+fn record_done(mut l: Loading, tag: u16, written: usize, missing: usize) -> Loading
     ensures { λ r. ⌜ ((a : List ℕ) → recordDone tag written missing (stateOf l a) ≡ stateOf r a) ⌝ }
 {
     let held = l.held;
     if missing == 0 {
-        let shut = steps::with_open(l, Open::Shut, held);
-        let mut next = steps::with_taken(shut, RECORD_ROW);
-        next.last = tag;
-        return next;
+        l = steps::with_open(l, Open::Shut, held);
+        l = steps::with_taken(l, RECORD_ROW);
+        l.last = tag;
+        return l;
     }
     steps::with_open(
         l,
@@ -69,9 +69,8 @@ pub fn record_fed(
     let n = bytes::least(missing, d.len() - at);
     let end = at + n;
     lay_record(l, area, tag, written, &d[at..end]);
-    let next = record_done(l, tag, written + n, missing - n);
     Step {
         course: Course::Went(end),
-        load: next,
+        load: record_done(l, tag, written + n, missing - n),
     }
 }

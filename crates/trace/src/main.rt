@@ -377,10 +377,7 @@ fn trace_all(mut c: Card, area: &mut [u8], records: &[u8], out: &mut [u8]) -> Tr
         end = t.end;
         i += 1;
     }
-    Traced {
-        card: c,
-        end: end,
-    }
+    Traced { card: c, end: end }
 }
 
 // The card after a block, and whether the input goes on.

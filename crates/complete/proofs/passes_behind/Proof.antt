@@ -36,7 +36,7 @@ enum-told-3 c = search needs
 
 returns : tie.Need-returns
 returns c =
-    let w = c .before .before .before .before .before in
+    let w = c .before .before .before .before in
     let s = w .before .before .before .before .before .args in
     let t = stateOf (w .walked .result .load) (w .walked .last .1 .0) in
     let e = sym (ap (λ (x : Course). endedAs x t) (c .before .enum-told .given .1)) ∙ w .walked .ensures in
@@ -45,7 +45,7 @@ returns c =
 
 returns-2 : tie.Need-returns-2
 returns-2 c =
-    let w = c .before .before .before .before in
+    let w = c .before .before .before in
     let s = w .before .before .before .before .before .args in
     let t = stateOf (w .walked .result .load) (w .walked .last .1 .0) in
     let e = sym (ap (λ (x : Course). endedAs x t) (c .enum-told2 .given .1)) ∙ w .walked .ensures in
@@ -53,7 +53,7 @@ returns-2 c =
 
 returns-3 : tie.Need-returns-3
 returns-3 c =
-    let w = c .before .before .before .before in
+    let w = c .before .before .before in
     let s = w .before .before .before .before .before .args in
     let t = stateOf (w .walked .result .load) (w .walked .last .1 .0) in
     let e = sym (ap (λ (x : Course). endedAs x t) (c .enum-told3 .given .1)) ∙ w .walked .ensures in

@@ -1,20 +1,13 @@
-use Prim.Native.Nat.{ℕ, suc, _+_, _*_, _-_, _≤_, _<_, _/_, _%_}
-use mathlib.Core.Path.{_≡_, refl, ap, sym, _∙_}
-use mathlib.Core.List.{List, [], _∷_, _++_}
+use Prim.Native.Nat.{_+_, _-_}
+use mathlib.Core.Path.{sym, _∙_}
 use native.Mathlib.Omega.{arith}
-use native.Mathlib.Numerals.{add-one}
-use lib.ListN.{length, take, drop, set, getD, length-set, length-take, length-drop, length-append}
+use lib.ListN.{length, length-take, length-drop}
 use denote.Ref.{now}
 use borrow.Author.Needs.{needs}
-use Rattle.lists.specs.Over.{overwrite, over-mid}
-use Rattle.model.specs.Rules.{laid}
+use Rattle.lists.specs.Over.{over-mid}
 use Rattle.steps.proofs.Values.{value-within}
 use Rattle.laying.proofs.lay_record.Statement.{statement}
 use Rattle.laying.proofs.lay_record.Tie as tie
-use Rattle.laying.proofs.lay_record.Reads as reads
-use Rattle.laying.proofs.lay_record.Lts as lts
-use Rattle.places.proofs.spot_at.Reads as spot-at-reads
-use Rattle.slices.proofs.lay.Reads as lay-reads
 
 spot-at-requires : tie.Need-spot-at-requires
 spot-at-requires c κs = search needs

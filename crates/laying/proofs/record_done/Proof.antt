@@ -1,18 +1,8 @@
-use Prim.Native.Nat.{ℕ, suc, _+_, _*_, _-_, _≤_, _<_, _/_, _%_}
-use mathlib.Core.Path.{_≡_, refl, ap, sym, _∙_}
-use mathlib.Core.List.{List, [], _∷_, _++_}
-use native.Mathlib.Omega.{arith}
-use native.Mathlib.Numerals.{add-one}
-use lib.ListN.{length, take, drop, set, getD, length-set, length-take, length-drop, length-append}
-use denote.Ref.{now}
+use mathlib.Core.Path.{_∙_}
 use borrow.Author.Needs.{needs}
 use Rattle.steps.proofs.Values.{record-ends, record-goes-on}
 use Rattle.laying.proofs.record_done.Statement.{statement}
 use Rattle.laying.proofs.record_done.Tie as tie
-use Rattle.laying.proofs.record_done.Reads as reads
-use Rattle.laying.proofs.record_done.Lts as lts
-use Rattle.steps.proofs.with_open.Reads as with-open-reads
-use Rattle.steps.proofs.with_taken.Reads as with-taken-reads
 
 with-open-requires : tie.Need-with-open-requires
 with-open-requires c κs = search needs

@@ -1,23 +1,11 @@
-use Prim.Native.Nat.{ℕ, suc, _+_, _*_, _-_, _≤_, _<_, _/_, _%_}
-use mathlib.Core.Path.{_≡_, refl, ap, sym, _∙_}
-use mathlib.Core.List.{List, [], _∷_, _++_}
 use native.Mathlib.Omega.{arith}
-use native.Mathlib.Numerals.{add-one}
-use lib.ListN.{length, take, drop, set, getD, length-set, length-take, length-drop, length-append}
+use lib.ListN.{length-take, length-drop}
 use denote.Ref.{now}
 use borrow.Author.Needs.{needs}
 use Rattle.steps.proofs.Values.{record-step}
-use Rattle.soundness.specs.Opened.{RecordOpen}
-use Rattle.model.specs.Rules.{recordBytes}
-use Rattle.lists.specs.Least.{rest-least, part-least, length-least}
 use Rattle.steps.proofs.Values.{value-part}
 use Rattle.laying.proofs.record_fed.Statement.{statement}
 use Rattle.laying.proofs.record_fed.Tie as tie
-use Rattle.laying.proofs.record_fed.Reads as reads
-use Rattle.laying.proofs.record_fed.Lts as lts
-use Rattle.laying.proofs.lay_record.Reads as lay-record-reads
-use Rattle.bytes.proofs.least.Reads as least-reads
-use Rattle.laying.proofs.record_done.Reads as record-done-reads
 
 sub-least : tie.Need-sub-least
 sub-least c = search needs
