@@ -70,15 +70,16 @@ fn from_d(l: Loading, area: &mut [u8], capacity: u8, h: Head, d: &[u8], at: usiz
 }
 
 // Rule c and what follows: the state becomes '5A' before any later check.
-fn from_c(mut l: Loading, area: &mut [u8], capacity: u8, h: Head, d: &[u8], at: usize) -> Step
+fn from_c(l: Loading, area: &mut [u8], capacity: u8, h: Head, d: &[u8], at: usize) -> Step
     requires { ⌜ Sure l (now area) × (l .pending ≡ Shut) × (at + h .size ≤ length (now d)) ⌝ }
     ensures { λ r. ⌜ stepped r (now (d .entry)) (now (area .exit)) ≡ fromC capacity h (drop at (now (d .entry))) (stateOf l (now (area .entry))) ⌝ }
 {
     if l.internal == 0xA5 {
         return steps::failed_by(0x6985, l);
     }
-    l.internal = 0x5A;
-    from_d(l, area, capacity, h, d, at)
+    let mut next = l;
+    next.internal = 0x5A;
+    from_d(next, area, capacity, h, d, at)
 }
 
 // Rules b to h of a grouping whose header is whole; it begins at `at`.

@@ -35,7 +35,7 @@ fn told_of(answer: &mut [u8], c: Card, course: Course) -> Played
 }
 
 // STORE DATA.
-pub fn stored(mut c: Card, area: &mut [u8], answer: &mut [u8], p1: u8, d: &[u8]) -> Played
+pub fn stored(c: Card, area: &mut [u8], answer: &mut [u8], p1: u8, d: &[u8]) -> Played
     requires { ⌜ Good areaSize c (now area) × (64 ≤ length (now answer)) ⌝ }
     ensures { λ r. ⌜ (r .number ≡ 0) × Answers (storeData p1 (now (d .entry)) c (now (area .entry))) (r .word) (r .answered) (r .card) (now (area .exit)) (now (answer .entry)) (now (answer .exit)) ⌝ }
 {
@@ -46,8 +46,9 @@ pub fn stored(mut c: Card, area: &mut [u8], answer: &mut [u8], p1: u8, d: &[u8])
         let s = load::commanded(c.loading, area, c.chip.capacity, p1, d);
         let course = s.course;
         let load = s.load;
-        c.loading = load;
-        return told_of(answer, c, course);
+        let mut card = c;
+        card.loading = load;
+        return told_of(answer, card, course);
     }
     Played {
         number: 0,

@@ -92,19 +92,20 @@ pub fn loaded(c: Card, area: &mut [u8], answer: &mut [u8], r: &[u8]) -> Played
 }
 
 // One record on a sound card.
-pub fn turn(mut c: Card, area: &mut [u8], answer: &mut [u8], r: &[u8]) -> Played
+pub fn turn(c: Card, area: &mut [u8], answer: &mut [u8], r: &[u8]) -> Played
     requires { ⌜ Good areaSize c (now area) × (64 ≤ length (now answer)) × (length (now r) ≡ 260) ⌝ }
     ensures { λ x. ⌜ Plays (turnOf c (now (area .entry)) (now (r .entry))) x (now (area .exit)) (now (answer .entry)) (now (answer .exit)) ⌝ }
 {
     if kinds::is_brief(c, r) {
         let told = brief::lived(c, area, answer, r);
         let life = told.life;
-        c.life = life;
+        let mut card = c;
+        card.life = life;
         return Played {
             number: 0,
             word: told.word,
             answered: told.answered,
-            card: c,
+            card: card,
         };
     }
     loaded(c, area, answer, r)
