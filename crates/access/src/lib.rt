@@ -1,6 +1,6 @@
 // A file's access conditions: AC and NKey.
 ghost use mathlib.Core.Path.{_≡_};
-ghost use Prim.Native.Nat.{_-_, _<_};
+ghost use Prim.Native.Nat.{_<_};
 ghost use Rattle.model.specs.Table.{accessOk, accessesOk};
 
 fn access_ok(a: u8, k: u8) -> bool

@@ -1,7 +1,7 @@
 // One descriptor of the file table: its fields judged, and beside another one.
 use model::Descriptor;
 ghost use mathlib.Core.Path.{_≡_};
-ghost use Prim.Native.Nat.{_-_, _<_};
+ghost use Prim.Native.Nat.{_<_};
 ghost use Rattle.descriptor.specs.Fields.{efFields};
 ghost use Rattle.model.specs.Table.{dfOk, efType, clash, counterIn};
 

@@ -2,7 +2,7 @@
 use model::Card;
 use model::Played;
 ghost use mathlib.Core.Path.{_≡_};
-ghost use Prim.Native.Nat.{_+_, _≤_, _<_};
+ghost use Prim.Native.Nat.{_+_, _<_};
 ghost use lib.ListN.{length};
 ghost use Rattle.model.specs.Stored.{isKind};
 ghost use Rattle.kinds.specs.Brief.{faultIn, isBrief, briefTurn};

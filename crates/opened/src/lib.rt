@@ -6,8 +6,6 @@ ghost use mathlib.Core.Path.{_≡_};
 ghost use mathlib.Core.Bool.{_&&_};
 ghost use Prim.Native.Nat.{_≤_};
 ghost use lib.Dec.{eqb};
-ghost use Rattle.model.specs.Loads.{fileList};
-ghost use Rattle.model.specs.Rules.{tagSpot};
 ghost use Rattle.model.specs.Sound.{tableFits, recordFits, pendingFits, someMissing, openOk};
 ghost use Rattle.opened.specs.Parts.{openPart};
 

@@ -2,7 +2,7 @@
 use model::Header;
 use model::Pulled;
 ghost use mathlib.Core.Path.{_≡_};
-ghost use Prim.Native.Nat.{_+_, min};
+ghost use Prim.Native.Nat.{_+_};
 ghost use Rattle.model.specs.Order.{pullOf};
 ghost use Rattle.reader.specs.Reads.{nothingFound, foundAt, valueOf};
 

@@ -1,6 +1,6 @@
 // The set of rows taken: row r is bit r - 1.
 ghost use mathlib.Core.Path.{_≡_};
-ghost use Prim.Native.Nat.{_+_, _-_, _≤_, _<_};
+ghost use Prim.Native.Nat.{_+_, _-_, _≤_};
 ghost use Rattle.model.specs.Rows.{taken, withRow, takenOf};
 
 // Whether a row is in the set.

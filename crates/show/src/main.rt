@@ -10,7 +10,7 @@ use form::write;
 use libc::STDIN_FILENO;
 use model::Card;
 ghost use mathlib.Core.Path.{_≡_};
-ghost use Prim.Native.Nat.{_≤_, _<_};
+ghost use Prim.Native.Nat.{_<_};
 ghost use lib.ListN.{length};
 ghost use Rattle.lists.specs.Bytes.{zeros};
 ghost use Rattle.model.specs.Stored.{areaSize};

@@ -2,7 +2,6 @@
 use model::Card;
 use model::Spot;
 ghost use mathlib.Core.Path.{_≡_};
-ghost use Prim.Native.Nat.{_*_};
 ghost use Rattle.model.specs.Rows.{takenOf};
 ghost use Rattle.model.specs.Session.{shownOf};
 ghost use Rattle.showing.specs.Shows.{Shows};

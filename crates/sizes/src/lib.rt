@@ -1,7 +1,7 @@
 // A file's size in the file area.
 use model::Descriptor;
 ghost use mathlib.Core.Path.{_≡_};
-ghost use Prim.Native.Nat.{_+_, _-_, _*_, _≤_, _<_};
+ghost use Prim.Native.Nat.{_+_, _*_, _≤_, _<_};
 ghost use Rattle.model.specs.Table.{sizeOf, sizesOk};
 
 const BINARY: u8 = 0x01;

@@ -2,7 +2,7 @@
 use model::Descriptor;
 use model::Verdict;
 ghost use mathlib.Core.Path.{_≡_};
-ghost use Prim.Native.Nat.{_+_, _-_, _*_, _≤_, _<_};
+ghost use Prim.Native.Nat.{_+_, _*_, _≤_, _<_};
 ghost use lib.ListN.{take};
 ghost use Rattle.model.specs.Table.{passed, clashes, counterAmong, dataRefOk, efOk, rulesOk, total, admitOf, tablePasses};
 
