@@ -1,18 +1,11 @@
-use Prim.Native.Nat.{ℕ, suc, _+_, _*_, _-_, _≤_, _<_, _/_, _%_}
-use mathlib.Core.Path.{_≡_, refl, ap, sym, _∙_}
-use mathlib.Core.List.{List, [], _∷_, _++_}
+use Prim.Native.Nat.{_+_, _-_}
+use mathlib.Core.Path.{_≡_}
 use native.Mathlib.Omega.{arith}
-use native.Mathlib.Numerals.{add-one}
-use lib.ListN.{length, take, drop, set, getD, length-set, length-take, length-drop, length-append}
 use denote.Ref.{now}
 use borrow.Author.Needs.{needs}
 use Rattle.brief.proofs.Replies.{plays, brief-kind, brief-turn}
 use Rattle.brief.proofs.lived.Statement.{statement}
 use Rattle.brief.proofs.lived.Tie as tie
-use Rattle.brief.proofs.lived.Reads as reads
-use Rattle.brief.proofs.lived.Lts as lts
-use Rattle.bytes.proofs.wide.Reads as wide-reads
-use Rattle.brief.proofs.lived_on.Reads as lived-on-reads
 
 shared-slice-read-wide : tie.Need-shared-slice-read-wide
 shared-slice-read-wide c = search needs

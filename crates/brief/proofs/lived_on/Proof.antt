@@ -1,9 +1,3 @@
-use Prim.Native.Nat.{ℕ, suc, _+_, _*_, _-_, _≤_, _<_, _/_, _%_}
-use mathlib.Core.Path.{_≡_, refl, ap, sym, _∙_}
-use mathlib.Core.List.{List, [], _∷_, _++_}
-use native.Mathlib.Omega.{arith}
-use native.Mathlib.Numerals.{add-one}
-use lib.ListN.{length, take, drop, set, getD, length-set, length-take, length-drop, length-append}
 use denote.Ref.{now}
 use borrow.Author.Needs.{needs}
 use borrow.Author.Tests.{ne-eqb}
@@ -12,10 +6,6 @@ use Rattle.brief.proofs.Named.{good-name}
 use Rattle.brief.proofs.Outside.{event-outside, event-select}
 use Rattle.brief.proofs.lived_on.Statement.{statement}
 use Rattle.brief.proofs.lived_on.Tie as tie
-use Rattle.brief.proofs.lived_on.Reads as reads
-use Rattle.brief.proofs.lived_on.Lts as lts
-use Rattle.brief.proofs.unanswered.Reads as unanswered-reads
-use Rattle.select.proofs.selected_by.Reads as selected-by-reads
 
 selected-by-requires : tie.Need-selected-by-requires
 selected-by-requires c κs = let p = c .before .before .before .before .before .pre in (p .1, good-name _ _ (p .0))

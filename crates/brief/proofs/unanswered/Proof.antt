@@ -1,10 +1,3 @@
-use Prim.Native.Nat.{ℕ, suc, _+_, _*_, _-_, _≤_, _<_, _/_, _%_}
-use mathlib.Core.Path.{_≡_, refl, ap, sym, _∙_}
-use mathlib.Core.List.{List, [], _∷_, _++_}
-use native.Mathlib.Omega.{arith}
-use native.Mathlib.Numerals.{add-one}
-use lib.ListN.{length, take, drop, set, getD, length-set, length-take, length-drop, length-append}
-use denote.Ref.{now}
 use borrow.Author.Needs.{needs}
 use borrow.Author.Tests.{eq-eqb, ne-eqb}
 use Rattle.brief.proofs.Named.{good-name}
@@ -12,13 +5,6 @@ use Rattle.model.specs.Events.{otherwise}
 use Rattle.kinds.specs.Brief.{brief-idle, store-unselected}
 use Rattle.brief.proofs.unanswered.Statement.{statement}
 use Rattle.brief.proofs.unanswered.Tie as tie
-use Rattle.brief.proofs.unanswered.Reads as reads
-use Rattle.brief.proofs.unanswered.Lts as lts
-use Rattle.install.proofs.installed_by.Reads as installed-by-reads
-use Rattle.life.proofs.answered_foreign.Reads as answered-foreign-reads
-use Rattle.life.proofs.deselected.Reads as deselected-reads
-use Rattle.life.proofs.locked_by.Reads as locked-by-reads
-use Rattle.life.proofs.unlocked_by.Reads as unlocked-by-reads
 
 installed-by-requires : tie.Need-installed-by-requires
 installed-by-requires c κs = let p = c .before .before .before .before .pre .0 in (p .area, good-name _ _ p)

@@ -1,18 +1,13 @@
-use Prim.Native.Nat.{ℕ, suc, _+_, _*_, _-_, _≤_, _<_, _/_, _%_}
-use mathlib.Core.Path.{_≡_, refl, ap, sym, _∙_}
-use mathlib.Core.List.{List, [], _∷_, _++_}
-use native.Mathlib.Omega.{arith}
-use native.Mathlib.Numerals.{add-one}
-use lib.ListN.{length, take, drop, set, getD, length-set, length-take, length-drop, length-append}
-use mathlib.Core.Bool.{Bool, true, false, _&&_}
+use Prim.Native.Nat.{_-_}
+use mathlib.Core.Path.{_≡_, refl, sym, _∙_}
+use lib.ListN.{length, drop}
+use mathlib.Core.Bool.{_&&_}
 use mathlib.Core.Logic.{⊎-elim}
 use Rattle.lists.specs.Bytes.{allZero, zero-step, zero-stop, zero-end, and-false, and-true}
 use denote.Ref.{now}
 use borrow.Author.Needs.{needs}
 use Rattle.bytes.proofs.zero_from.Statement.{statement}
 use Rattle.bytes.proofs.zero_from.Tie as tie
-use Rattle.bytes.proofs.zero_from.Reads as reads
-use Rattle.bytes.proofs.zero_from.Lts as lts
 
 abbrev Inv-loop : tie.InvT-loop
 Inv-loop s at zero₀ i₀ zero i = allZero (drop at s) ≡ (zero && allZero (drop i s))

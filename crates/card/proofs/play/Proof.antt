@@ -1,21 +1,11 @@
-use Prim.Native.Nat.{ℕ, suc, _+_, _*_, _-_, _≤_, _<_, _/_, _%_}
-use mathlib.Core.Path.{_≡_, refl, ap, sym, _∙_}
-use mathlib.Core.List.{List, [], _∷_, _++_}
+use mathlib.Core.Path.{sym, _∙_}
 use native.Mathlib.Omega.{arith}
-use native.Mathlib.Numerals.{add-one}
-use lib.ListN.{length, take, drop, set, getD, length-set, length-take, length-drop, length-append}
-use denote.Ref.{now}
 use borrow.Author.Needs.{needs}
 use borrow.Author.Tests.{eq-eqb, ne-eqb, lt-ltb, le-ltb}
 use Rattle.brief.proofs.Replies.{refused}
 use Rattle.model.specs.Session.{playOf}
 use Rattle.card.proofs.play.Statement.{statement}
 use Rattle.card.proofs.play.Tie as tie
-use Rattle.card.proofs.play.Reads as reads
-use Rattle.card.proofs.play.Lts as lts
-use Rattle.kinds.proofs.refused_by.Reads as refused-by-reads
-use Rattle.turns.proofs.turn.Reads as turn-reads
-use Rattle.sound.proofs.is_sound.Reads as is-sound-reads
 
 refused-by-requires : tie.Need-refused-by-requires
 refused-by-requires c κs = search needs

@@ -1,20 +1,9 @@
-use Prim.Native.Nat.{ℕ, suc, _+_, _*_, _-_, _≤_, _<_, _/_, _%_}
-use mathlib.Core.Path.{_≡_, refl, ap, sym, _∙_}
-use mathlib.Core.List.{List, [], _∷_, _++_}
-use native.Mathlib.Omega.{arith}
-use native.Mathlib.Numerals.{add-one}
-use lib.ListN.{length, take, drop, set, getD, length-set, length-take, length-drop, length-append}
-use denote.Ref.{now}
+use mathlib.Core.Path.{sym, _∙_}
 use borrow.Author.Needs.{needs}
 use Rattle.rows.proofs.Records.{record-spans}
 use Rattle.header.proofs.Units.{unknown-whole}
 use Rattle.cuts.proofs.is_spannable.Statement.{statement}
 use Rattle.cuts.proofs.is_spannable.Tie as tie
-use Rattle.cuts.proofs.is_spannable.Reads as reads
-use Rattle.cuts.proofs.is_spannable.Lts as lts
-use Rattle.cuts.proofs.is_record.Reads as is-record-reads
-use Rattle.rows.proofs.row_at.Reads as row-at-reads
-use Rattle.rows.proofs.row_of.Reads as row-of-reads
 
 is-record-requires : tie.Need-is-record-requires
 is-record-requires c κs = search needs

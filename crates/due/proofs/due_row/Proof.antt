@@ -1,19 +1,8 @@
-use Prim.Native.Nat.{ℕ, suc, _+_, _*_, _-_, _≤_, _<_, _/_, _%_}
-use mathlib.Core.Path.{_≡_, refl, ap, sym, _∙_}
-use mathlib.Core.List.{List, [], _∷_, _++_}
-use native.Mathlib.Omega.{arith}
-use native.Mathlib.Numerals.{add-one}
-use lib.ListN.{length, take, drop, set, getD, length-set, length-take, length-drop, length-append}
-use denote.Ref.{now}
 use borrow.Author.Needs.{needs}
 use borrow.Author.Tests.{eq-eqb, ne-eqb}
 use Rattle.model.specs.Rules.{dueRow}
 use Rattle.due.proofs.due_row.Statement.{statement}
 use Rattle.due.proofs.due_row.Tie as tie
-use Rattle.due.proofs.due_row.Reads as reads
-use Rattle.due.proofs.due_row.Lts as lts
-use Rattle.due.proofs.is_due.Reads as is-due-reads
-use Rattle.rows.proofs.row_of.Reads as row-of-reads
 
 row-of-requires : tie.Need-row-of-requires
 row-of-requires c κs = search needs

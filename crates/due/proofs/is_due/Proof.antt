@@ -1,20 +1,8 @@
-use Prim.Native.Nat.{ℕ, suc, _+_, _*_, _-_, _≤_, _<_, _/_, _%_}
-use mathlib.Core.Path.{_≡_, refl, ap, sym, _∙_}
-use mathlib.Core.List.{List, [], _∷_, _++_}
-use native.Mathlib.Omega.{arith}
-use native.Mathlib.Numerals.{add-one}
-use lib.ListN.{length, take, drop, set, getD, length-set, length-take, length-drop, length-append}
-use denote.Ref.{now}
 use borrow.Author.Needs.{needs}
 use borrow.Author.Tests.{eq-eqb, ne-eqb}
 use Rattle.model.specs.Rows.{due, readyFor, noneFrom}
-use Rattle.lists.specs.Choice.{cases}
 use Rattle.due.proofs.is_due.Statement.{statement}
 use Rattle.due.proofs.is_due.Tie as tie
-use Rattle.due.proofs.is_due.Reads as reads
-use Rattle.due.proofs.is_due.Lts as lts
-use Rattle.due.proofs.is_rising.Reads as is-rising-reads
-use Rattle.rows.proofs.missing_before.Reads as missing-before-reads
 
 sub-missing-before : tie.Need-sub-missing-before
 sub-missing-before c = search needs

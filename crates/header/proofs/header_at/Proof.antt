@@ -1,18 +1,10 @@
-use Prim.Native.Nat.{ℕ, suc, _+_, _*_, _-_, _≤_, _<_, _/_, _%_}
-use mathlib.Core.Path.{_≡_, refl, ap, sym, _∙_}
-use mathlib.Core.List.{List, [], _∷_, _++_}
+use mathlib.Core.Path.{sym}
 use native.Mathlib.Omega.{arith}
-use native.Mathlib.Numerals.{add-one}
-use lib.ListN.{length, take, drop, set, getD, length-set, length-take, length-drop, length-append}
 use denote.Ref.{now}
 use borrow.Author.Needs.{needs}
 use Rattle.header.proofs.Places.{torn-short, short-form, torn-long, long-ffff, long-form}
 use Rattle.header.proofs.header_at.Statement.{statement}
 use Rattle.header.proofs.header_at.Tie as tie
-use Rattle.header.proofs.header_at.Reads as reads
-use Rattle.header.proofs.header_at.Lts as lts
-use Rattle.bytes.proofs.wide.Reads as wide-reads
-use Rattle.header.proofs.word_at.Reads as word-at-reads
 
 returns : tie.Need-returns
 returns c =

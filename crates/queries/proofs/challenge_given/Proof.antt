@@ -1,20 +1,8 @@
-use Prim.Native.Nat.{ℕ, suc, _+_, _*_, _-_, _≤_, _<_, _/_, _%_}
-use mathlib.Core.Path.{_≡_, refl, ap, sym, _∙_}
-use mathlib.Core.List.{List, [], _∷_, _++_}
-use native.Mathlib.Omega.{arith}
-use native.Mathlib.Numerals.{add-one}
-use lib.ListN.{length, take, drop, set, getD, length-set, length-take, length-drop, length-append}
-use denote.Ref.{now}
 use borrow.Author.Needs.{needs}
 use Rattle.model.specs.Rules.{challenged}
 use borrow.Author.Tests.{eq-eqb, ne-eqb}
 use Rattle.queries.proofs.challenge_given.Statement.{statement}
 use Rattle.queries.proofs.challenge_given.Tie as tie
-use Rattle.queries.proofs.challenge_given.Reads as reads
-use Rattle.queries.proofs.challenge_given.Lts as lts
-use Rattle.steps.proofs.with_taken.Reads as with-taken-reads
-use Rattle.steps.proofs.failed_by.Reads as failed-by-reads
-use Rattle.due.proofs.is_due.Reads as is-due-reads
 
 failed-by-requires : tie.Need-failed-by-requires
 failed-by-requires c κs = search needs

@@ -1,20 +1,9 @@
-use Prim.Native.Nat.{ℕ, suc, _+_, _*_, _-_, _≤_, _<_, _/_, _%_}
-use mathlib.Core.Path.{_≡_, refl, ap, sym, _∙_}
-use mathlib.Core.List.{List, [], _∷_, _++_}
-use native.Mathlib.Omega.{arith}
-use native.Mathlib.Numerals.{add-one}
-use lib.ListN.{length, take, drop, set, getD, length-set, length-take, length-drop, length-append}
-use denote.Ref.{now}
 use borrow.Author.Needs.{needs}
 use Rattle.queries.proofs.Place.{not-first, first, alone}
 use Rattle.model.specs.Rules.{query}
 use borrow.Author.Tests.{eq-eqb, ne-eqb, lt-leb, le-leb}
 use Rattle.queries.proofs.queried.Statement.{statement}
 use Rattle.queries.proofs.queried.Tie as tie
-use Rattle.queries.proofs.queried.Reads as reads
-use Rattle.queries.proofs.queried.Lts as lts
-use Rattle.queries.proofs.challenge_given.Reads as challenge-given-reads
-use Rattle.steps.proofs.failed_by.Reads as failed-by-reads
 
 failed-by-requires : tie.Need-failed-by-requires
 failed-by-requires c κs = search needs

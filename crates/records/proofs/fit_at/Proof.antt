@@ -1,20 +1,11 @@
-use Prim.Native.Nat.{ℕ, suc, _+_, _*_, _-_, _≤_, _<_, _/_, _%_}
-use mathlib.Core.Path.{_≡_, refl, ap, sym, _∙_}
-use mathlib.Core.List.{List, [], _∷_, _++_}
+use mathlib.Core.Path.{refl, sym, _∙_}
 use native.Mathlib.Omega.{arith}
-use native.Mathlib.Numerals.{add-one}
-use lib.ListN.{length, take, drop, set, getD, length-set, length-take, length-drop, length-append}
 use denote.Ref.{now}
 use borrow.Author.Needs.{needs}
 use Rattle.records.proofs.Chains.{header-within}
 use Rattle.records.proofs.Runs.{fit-of}
 use Rattle.records.proofs.fit_at.Statement.{statement}
 use Rattle.records.proofs.fit_at.Tie as tie
-use Rattle.records.proofs.fit_at.Reads as reads
-use Rattle.records.proofs.fit_at.Lts as lts
-use Rattle.header.proofs.header_at.Reads as header-at-reads
-use Rattle.records.proofs.follows.Reads as follows-reads
-use Rattle.records.proofs.placed.Reads as placed-reads
 
 returns : tie.Need-returns
 returns c = search needs

@@ -1,16 +1,6 @@
-use Prim.Native.Nat.{ℕ, suc, _+_, _*_, _-_, _≤_, _<_, _/_, _%_}
-use mathlib.Core.Path.{_≡_, refl, ap, sym, _∙_}
-use mathlib.Core.List.{List, [], _∷_, _++_}
-use native.Mathlib.Omega.{arith}
-use native.Mathlib.Numerals.{add-one}
-use lib.ListN.{length, take, drop, set, getD, length-set, length-take, length-drop, length-append}
-use denote.Ref.{now}
-use borrow.Author.Needs.{needs}
 use Rattle.lists.specs.Choice.{cases}
 use Rattle.records.proofs.follows.Statement.{statement}
 use Rattle.records.proofs.follows.Tie as tie
-use Rattle.records.proofs.follows.Reads as reads
-use Rattle.records.proofs.follows.Lts as lts
 
 returns : tie.Need-returns
 returns c = search cases

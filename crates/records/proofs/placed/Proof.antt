@@ -1,16 +1,8 @@
-use Prim.Native.Nat.{ℕ, suc, _+_, _*_, _-_, _≤_, _<_, _/_, _%_}
-use mathlib.Core.Path.{_≡_, refl, ap, sym, _∙_}
-use mathlib.Core.List.{List, [], _∷_, _++_}
+use mathlib.Core.Path.{refl, sym, _∙_}
 use native.Mathlib.Omega.{arith}
-use native.Mathlib.Numerals.{add-one}
-use lib.ListN.{length, take, drop, set, getD, length-set, length-take, length-drop, length-append}
-use denote.Ref.{now}
 use borrow.Author.Needs.{needs}
 use Rattle.records.proofs.placed.Statement.{statement}
 use Rattle.records.proofs.placed.Tie as tie
-use Rattle.records.proofs.placed.Reads as reads
-use Rattle.records.proofs.placed.Lts as lts
-use Rattle.places.proofs.spot_of.Reads as spot-of-reads
 
 sub-if1 : tie.Need-sub-if1
 sub-if1 c = search needs

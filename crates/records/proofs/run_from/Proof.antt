@@ -1,18 +1,7 @@
-use Prim.Native.Nat.{ℕ, suc, _+_, _*_, _-_, _≤_, _<_, _/_, _%_}
-use mathlib.Core.Path.{_≡_, refl, ap, sym, _∙_}
-use mathlib.Core.List.{List, [], _∷_, _++_}
-use native.Mathlib.Omega.{arith}
-use native.Mathlib.Numerals.{add-one}
-use lib.ListN.{length, take, drop, set, getD, length-set, length-take, length-drop, length-append}
-use denote.Ref.{now}
+use mathlib.Core.Path.{sym, _∙_}
 use borrow.Author.Needs.{needs}
 use Rattle.records.proofs.run_from.Statement.{statement}
 use Rattle.records.proofs.run_from.Tie as tie
-use Rattle.records.proofs.run_from.Reads as reads
-use Rattle.records.proofs.run_from.Lts as lts
-use Rattle.records.proofs.run_on.Reads as run-on-reads
-use Rattle.sets.proofs.is_taken.Reads as is-taken-reads
-use Rattle.rows.proofs.missing_before.Reads as missing-before-reads
 
 returns : tie.Need-returns
 returns c = search needs

@@ -1,9 +1,7 @@
-use Prim.Native.Nat.{ℕ, suc, _+_, _*_, _-_, _≤_, _<_, _/_, _%_}
-use mathlib.Core.Path.{_≡_, refl, ap, sym, _∙_}
-use mathlib.Core.List.{List, [], _∷_, _++_}
+use Prim.Native.Nat.{ℕ, _≤_}
+use mathlib.Core.Path.{_≡_, refl, _∙_}
 use native.Mathlib.Omega.{arith}
-use native.Mathlib.Numerals.{add-one}
-use lib.ListN.{length, take, drop, set, getD, length-set, length-take, length-drop, length-append}
+use lib.ListN.{length, drop, length-take, length-drop}
 use denote.Ref.{now}
 use borrow.Author.Needs.{needs}
 use Rattle.model.specs.Loads.{withLast}
@@ -18,10 +16,6 @@ use Rattle.soundness.proofs.Opened.{sound-spot}
 use Rattle.records.proofs.Runs.{run-turn}
 use Rattle.records.proofs.run_on.Statement.{statement}
 use Rattle.records.proofs.run_on.Tie as tie
-use Rattle.records.proofs.run_on.Reads as reads
-use Rattle.records.proofs.run_on.Lts as lts
-use Rattle.records.proofs.fit_at.Reads as fit-at-reads
-use Rattle.slices.proofs.put_bytes.Reads as put-bytes-reads
 
 abbrev Inv-loop : tie.InvT-loop
 Inv-loop l area₀ d at turns files i₀ last₀ left₀ area i last left =

@@ -1,18 +1,12 @@
-use Prim.Native.Nat.{ℕ, suc, _+_, _*_, _-_, _≤_, _<_, _/_, _%_}
-use mathlib.Core.Path.{_≡_, refl, ap, sym, _∙_}
-use mathlib.Core.List.{List, [], _∷_, _++_}
+use Prim.Native.Nat.{_<_}
+use mathlib.Core.Path.{_≡_, refl, _∙_}
 use native.Mathlib.Omega.{arith}
-use native.Mathlib.Numerals.{add-one}
-use lib.ListN.{length, take, drop, set, getD, length-set, length-take, length-drop, length-append}
-use denote.Ref.{now}
+use lib.ListN.{length}
 use borrow.Author.Needs.{needs}
 use Rattle.soundness.specs.Keeps.{Good}
 use Rattle.model.specs.Stored.{areaSize}
 use Rattle.replay.proofs.play_all.Statement.{statement}
 use Rattle.replay.proofs.play_all.Tie as tie
-use Rattle.replay.proofs.play_all.Reads as reads
-use Rattle.replay.proofs.play_all.Lts as lts
-use Rattle.replay.proofs.play_block.Reads as play-block-reads
 
 abbrev Inv-loop : tie.InvT-loop
 Inv-loop c₀ area₀ block₀ lines₀ count₀ turns₀ c area block lines count turns =

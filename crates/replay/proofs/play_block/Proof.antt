@@ -1,18 +1,8 @@
-use Prim.Native.Nat.{ℕ, suc, _+_, _*_, _-_, _≤_, _<_, _/_, _%_}
-use mathlib.Core.Path.{_≡_, refl, ap, sym, _∙_}
-use mathlib.Core.List.{List, [], _∷_, _++_}
 use native.Mathlib.Omega.{arith}
-use native.Mathlib.Numerals.{add-one}
-use lib.ListN.{length, take, drop, set, getD, length-set, length-take, length-drop, length-append}
-use denote.Ref.{now}
+use lib.ListN.{length-take}
 use borrow.Author.Needs.{needs}
 use Rattle.replay.proofs.play_block.Statement.{statement}
 use Rattle.replay.proofs.play_block.Tie as tie
-use Rattle.replay.proofs.play_block.Reads as reads
-use Rattle.replay.proofs.play_block.Lts as lts
-use Rattle.io.proofs.read_full.Reads as read-full-reads
-use Rattle.io.proofs.write_all.Reads as write-all-reads
-use Rattle.register.proofs.enter_all.Reads as enter-all-reads
 
 read-full-requires : tie.Need-read-full-requires
 read-full-requires c κs = search needs

@@ -1,21 +1,9 @@
-use Prim.Native.Nat.{ℕ, suc, _+_, _*_, _-_, _≤_, _<_, _/_, _%_}
-use mathlib.Core.Path.{_≡_, refl, ap, sym, _∙_}
-use mathlib.Core.List.{List, [], _∷_, _++_}
-use native.Mathlib.Omega.{arith}
-use native.Mathlib.Numerals.{add-one}
-use lib.ListN.{length, take, drop, set, getD, length-set, length-take, length-drop, length-append}
+use mathlib.Core.Path.{sym}
 use denote.Ref.{now}
 use borrow.Author.Needs.{needs}
 use Rattle.soundness.proofs.Sessions.{fresh-keeps}
 use Rattle.replay.proofs.replayed.Statement.{statement}
 use Rattle.replay.proofs.replayed.Tie as tie
-use Rattle.replay.proofs.replayed.Reads as reads
-use Rattle.replay.proofs.replayed.Lts as lts
-use Rattle.fresh.proofs.fresh.Reads as fresh-reads
-use Rattle.replay.proofs.block_buffer.Reads as block-buffer-reads
-use Rattle.replay.proofs.clear_area.Reads as clear-area-reads
-use Rattle.replay.proofs.line_buffer.Reads as line-buffer-reads
-use Rattle.replay.proofs.play_all.Reads as play-all-reads
 
 fresh-requires : tie.Need-fresh-requires
 fresh-requires c κs = search needs

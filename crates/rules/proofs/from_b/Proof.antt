@@ -1,9 +1,5 @@
-use Prim.Native.Nat.{ℕ, suc, _+_, _*_, _-_, _≤_, _<_, _/_, _%_}
-use mathlib.Core.Path.{_≡_, refl, ap, sym, _∙_}
-use mathlib.Core.List.{List, [], _∷_, _++_}
-use native.Mathlib.Omega.{arith}
-use native.Mathlib.Numerals.{add-one}
-use lib.ListN.{length, take, drop, set, getD, length-set, length-take, length-drop, length-append}
+use mathlib.Core.Path.{sym, _∙_}
+use lib.ListN.{length, drop, length-drop}
 use denote.Ref.{now}
 use borrow.Author.Needs.{needs}
 use Rattle.model.specs.Rules.{query}
@@ -12,11 +8,6 @@ use Rattle.steps.specs.Steps.{stateOf}
 use Rattle.records.proofs.Chains.{b-other, b-query, query-ends, query-stops}
 use Rattle.rules.proofs.from_b.Statement.{statement}
 use Rattle.rules.proofs.from_b.Tie as tie
-use Rattle.rules.proofs.from_b.Reads as reads
-use Rattle.rules.proofs.from_b.Lts as lts
-use Rattle.rules.proofs.from_c.Reads as from-c-reads
-use Rattle.queries.proofs.is_query.Reads as is-query-reads
-use Rattle.queries.proofs.queried.Reads as queried-reads
 
 is-query-requires : tie.Need-is-query-requires
 is-query-requires c κs = search needs

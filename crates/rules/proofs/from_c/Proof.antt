@@ -1,9 +1,5 @@
-use Prim.Native.Nat.{ℕ, suc, _+_, _*_, _-_, _≤_, _<_, _/_, _%_}
-use mathlib.Core.Path.{_≡_, refl, ap, sym, _∙_}
-use mathlib.Core.List.{List, [], _∷_, _++_}
-use native.Mathlib.Omega.{arith}
-use native.Mathlib.Numerals.{add-one}
-use lib.ListN.{length, take, drop, set, getD, length-set, length-take, length-drop, length-append}
+use mathlib.Core.Path.{refl, sym, _∙_}
+use lib.ListN.{drop}
 use denote.Ref.{now}
 use borrow.Author.Needs.{needs}
 use Rattle.values.proofs.Openings.{sure-personal}
@@ -11,10 +7,6 @@ use Rattle.steps.specs.Steps.{stateOf}
 use Rattle.records.proofs.Chains.{c-refuses, c-moves}
 use Rattle.rules.proofs.from_c.Statement.{statement}
 use Rattle.rules.proofs.from_c.Tie as tie
-use Rattle.rules.proofs.from_c.Reads as reads
-use Rattle.rules.proofs.from_c.Lts as lts
-use Rattle.steps.proofs.failed_by.Reads as failed-by-reads
-use Rattle.rules.proofs.from_d.Reads as from-d-reads
 
 failed-by-requires : tie.Need-failed-by-requires
 failed-by-requires c κs = search needs

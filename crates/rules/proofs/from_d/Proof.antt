@@ -1,9 +1,5 @@
-use Prim.Native.Nat.{ℕ, suc, _+_, _*_, _-_, _≤_, _<_, _/_, _%_}
-use mathlib.Core.Path.{_≡_, refl, ap, sym, _∙_}
-use mathlib.Core.List.{List, [], _∷_, _++_}
-use native.Mathlib.Omega.{arith}
-use native.Mathlib.Numerals.{add-one}
-use lib.ListN.{length, take, drop, set, getD, length-set, length-take, length-drop, length-append}
+use mathlib.Core.Path.{sym, _∙_}
+use lib.ListN.{drop}
 use denote.Ref.{now}
 use borrow.Author.Needs.{needs}
 use Rattle.soundness.proofs.Walks.{dueRow-passes}
@@ -11,11 +7,6 @@ use Rattle.steps.specs.Steps.{stateOf}
 use Rattle.records.proofs.Chains.{d-passes, d-refuses}
 use Rattle.rules.proofs.from_d.Statement.{statement}
 use Rattle.rules.proofs.from_d.Tie as tie
-use Rattle.rules.proofs.from_d.Reads as reads
-use Rattle.rules.proofs.from_d.Lts as lts
-use Rattle.steps.proofs.failed_by.Reads as failed-by-reads
-use Rattle.rules.proofs.from_e.Reads as from-e-reads
-use Rattle.due.proofs.due_row.Reads as due-row-reads
 
 due-row-requires : tie.Need-due-row-requires
 due-row-requires c κs = search needs

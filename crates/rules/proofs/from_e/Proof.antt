@@ -1,9 +1,5 @@
-use Prim.Native.Nat.{ℕ, suc, _+_, _*_, _-_, _≤_, _<_, _/_, _%_}
-use mathlib.Core.Path.{_≡_, refl, ap, sym, _∙_}
-use mathlib.Core.List.{List, [], _∷_, _++_}
-use native.Mathlib.Omega.{arith}
-use native.Mathlib.Numerals.{add-one}
-use lib.ListN.{length, take, drop, set, getD, length-set, length-take, length-drop, length-append}
+use mathlib.Core.Path.{sym, _∙_}
+use lib.ListN.{drop}
 use denote.Ref.{now}
 use borrow.Author.Needs.{needs}
 use Rattle.soundness.proofs.Parts.{sound-parts}
@@ -11,11 +7,6 @@ use Rattle.steps.specs.Steps.{stateOf, activeLife}
 use Rattle.records.proofs.Chains.{e-passes, e-refuses}
 use Rattle.rules.proofs.from_e.Statement.{statement}
 use Rattle.rules.proofs.from_e.Tie as tie
-use Rattle.rules.proofs.from_e.Reads as reads
-use Rattle.rules.proofs.from_e.Lts as lts
-use Rattle.steps.proofs.failed_by.Reads as failed-by-reads
-use Rattle.values.proofs.from_f.Reads as from-f-reads
-use Rattle.rules.proofs.room_of.Reads as room-of-reads
 
 room-of-requires : tie.Need-room-of-requires
 room-of-requires c κs =

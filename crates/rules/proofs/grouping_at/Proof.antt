@@ -1,20 +1,12 @@
-use Prim.Native.Nat.{ℕ, suc, _+_, _*_, _-_, _≤_, _<_, _/_, _%_}
-use mathlib.Core.Path.{_≡_, refl, ap, sym, _∙_}
-use mathlib.Core.List.{List, [], _∷_, _++_}
+use mathlib.Core.Path.{sym, _∙_}
 use native.Mathlib.Omega.{arith}
-use native.Mathlib.Numerals.{add-one}
-use lib.ListN.{length, take, drop, set, getD, length-set, length-take, length-drop, length-append}
+use lib.ListN.{length, drop}
 use denote.Ref.{now}
 use borrow.Author.Needs.{needs}
 use Rattle.steps.specs.Steps.{stateOf}
 use Rattle.records.proofs.Chains.{a-whole, a-torn, header-within}
 use Rattle.rules.proofs.grouping_at.Statement.{statement}
 use Rattle.rules.proofs.grouping_at.Tie as tie
-use Rattle.rules.proofs.grouping_at.Reads as reads
-use Rattle.rules.proofs.grouping_at.Lts as lts
-use Rattle.header.proofs.header_at.Reads as header-at-reads
-use Rattle.steps.proofs.failed_by.Reads as failed-by-reads
-use Rattle.rules.proofs.from_b.Reads as from-b-reads
 
 header-at-requires : tie.Need-header-at-requires
 header-at-requires c κs = search needs

@@ -1,19 +1,8 @@
-use Prim.Native.Nat.{ℕ, suc, _+_, _*_, _-_, _≤_, _<_, _/_, _%_}
-use mathlib.Core.Path.{_≡_, refl, ap, sym, _∙_}
-use mathlib.Core.List.{List, [], _∷_, _++_}
-use native.Mathlib.Omega.{arith}
-use native.Mathlib.Numerals.{add-one}
-use lib.ListN.{length, take, drop, set, getD, length-set, length-take, length-drop, length-append}
-use denote.Ref.{now}
 use borrow.Author.Needs.{needs}
 use Rattle.model.specs.Rules.{roomOf}
 use borrow.Author.Tests.{eq-eqb, ne-eqb}
 use Rattle.rules.proofs.room_of.Statement.{statement}
 use Rattle.rules.proofs.room_of.Tie as tie
-use Rattle.rules.proofs.room_of.Reads as reads
-use Rattle.rules.proofs.room_of.Lts as lts
-use Rattle.places.proofs.spot_at.Reads as spot-at-reads
-use Rattle.rows.proofs.row_at.Reads as row-at-reads
 
 spot-at-requires : tie.Need-spot-at-requires
 spot-at-requires c κs = search needs

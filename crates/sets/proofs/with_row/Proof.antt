@@ -1,19 +1,12 @@
-use Prim.Native.Nat.{ℕ, suc, _+_, _*_, _-_, _≤_, _<_, _/_, _%_}
-use mathlib.Core.Path.{_≡_, refl, ap, sym, _∙_}
-use mathlib.Core.List.{List, [], _∷_, _++_}
+use Prim.Native.Nat.{_-_, _≤_}
+use mathlib.Core.Path.{sym, _∙_}
 use native.Mathlib.Omega.{arith}
-use native.Mathlib.Numerals.{add-one}
-use lib.ListN.{length, take, drop, set, getD, length-set, length-take, length-drop, length-append}
-use denote.Ref.{now}
 use borrow.Author.Needs.{needs}
-use Rattle.sets.proofs.Sets.{bit-le, bit-shifted, bit-fits}
+use Rattle.sets.proofs.Sets.{bit-shifted, bit-fits}
 use Rattle.model.specs.Rows.{withRow, taken}
 use Rattle.model.specs.Rows.{withRow}
 use Rattle.sets.proofs.with_row.Statement.{statement}
 use Rattle.sets.proofs.with_row.Tie as tie
-use Rattle.sets.proofs.with_row.Reads as reads
-use Rattle.sets.proofs.with_row.Lts as lts
-use Rattle.sets.proofs.is_taken.Reads as is-taken-reads
 
 is-taken-requires : tie.Need-is-taken-requires
 is-taken-requires c κs = search needs

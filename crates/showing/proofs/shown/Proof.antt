@@ -1,10 +1,5 @@
-use Prim.Native.Nat.{ℕ, suc, _+_, _*_, _-_, _≤_, _<_, _/_, _%_}
-use mathlib.Core.Path.{_≡_, refl, ap, sym, _∙_}
-use mathlib.Core.List.{List, [], _∷_, _++_}
+use mathlib.Core.Path.{sym, _∙_}
 use native.Mathlib.Omega.{arith}
-use native.Mathlib.Numerals.{add-one}
-use lib.ListN.{length, take, drop, set, getD, length-set, length-take, length-drop, length-append}
-use denote.Ref.{now}
 use borrow.Author.Needs.{needs}
 use Rattle.showing.proofs.Showing.{part-shown}
 use Rattle.showing.proofs.Showing.{spot-shown, shown-1, shown-6}
@@ -12,10 +7,6 @@ use Rattle.soundness.proofs.Opened.{sound-spot}
 use Rattle.soundness.proofs.Parts.{sound-parts}
 use Rattle.showing.proofs.shown.Statement.{statement}
 use Rattle.showing.proofs.shown.Tie as tie
-use Rattle.showing.proofs.shown.Reads as reads
-use Rattle.showing.proofs.shown.Lts as lts
-use Rattle.sound.proofs.is_sound.Reads as is-sound-reads
-use Rattle.places.proofs.spot_of.Reads as spot-of-reads
 
 slice-aggregate-result : tie.Need-slice-aggregate-result
 slice-aggregate-result c = search needs

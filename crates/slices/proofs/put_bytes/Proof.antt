@@ -1,10 +1,7 @@
-use Prim.Native.Nat.{ℕ, suc, _+_, _*_, _-_, _≤_, _<_, _/_, _%_}
-use mathlib.Core.Path.{_≡_, refl, ap, sym, _∙_}
-use mathlib.Core.List.{List, [], _∷_, _++_}
+use Prim.Native.Nat.{_-_}
 use native.Mathlib.Omega.{arith}
-use native.Mathlib.Numerals.{add-one}
-use lib.ListN.{length, take, drop, set, getD, length-set, length-take, length-drop, length-append}
-use Rattle.lists.specs.Over.{overwrite, over-mid}
+use lib.ListN.{length}
+use Rattle.lists.specs.Over.{over-mid}
 use denote.Ref.{now}
 use borrow.Author.Needs.{needs}
 use Rattle.slices.proofs.put_bytes.Statement.{statement}

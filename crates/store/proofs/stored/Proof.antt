@@ -1,25 +1,13 @@
-use Prim.Native.Nat.{ℕ, suc, _+_, _*_, _-_, _≤_, _<_, _/_, _%_}
-use mathlib.Core.Path.{_≡_, refl, ap, sym, _∙_}
-use mathlib.Core.List.{List, [], _∷_, _++_}
-use native.Mathlib.Omega.{arith}
-use native.Mathlib.Numerals.{add-one}
-use lib.ListN.{length, take, drop, set, getD, length-set, length-take, length-drop, length-append}
+use mathlib.Core.Path.{refl}
 use denote.Ref.{now}
 use borrow.Author.Needs.{needs}
 use Rattle.store.proofs.Replies.{store-empty, store-command}
 use Rattle.kinds.specs.Brief.{store-unselected}
-use borrow.Author.Tests.{eq-eqb, ne-eqb}
 use Rattle.fci.specs.Answers.{said}
 use Rattle.store.proofs.Replies.{errs-told, course-told}
 use Rattle.store.proofs.Sure.{good-sure}
-use Rattle.model.specs.Events.{storeData}
 use Rattle.store.proofs.stored.Statement.{statement}
 use Rattle.store.proofs.stored.Tie as tie
-use Rattle.store.proofs.stored.Reads as reads
-use Rattle.store.proofs.stored.Lts as lts
-use Rattle.locking.proofs.failed_by.Reads as failed-by-reads
-use Rattle.store.proofs.told_of.Reads as told-of-reads
-use Rattle.load.proofs.commanded.Reads as commanded-reads
 
 failed-by-requires : tie.Need-failed-by-requires
 failed-by-requires c κs = search needs

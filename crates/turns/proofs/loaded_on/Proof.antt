@@ -1,9 +1,4 @@
-use Prim.Native.Nat.{ℕ, suc, _+_, _*_, _-_, _≤_, _<_, _/_, _%_}
-use mathlib.Core.Path.{_≡_, refl, ap, sym, _∙_}
-use mathlib.Core.List.{List, [], _∷_, _++_}
-use native.Mathlib.Omega.{arith}
-use native.Mathlib.Numerals.{add-one}
-use lib.ListN.{length, take, drop, set, getD, length-set, length-take, length-drop, length-append}
+use mathlib.Core.Path.{_≡_}
 use denote.Ref.{now}
 use borrow.Author.Needs.{needs}
 use borrow.Author.Tests.{ne-eqb}
@@ -14,11 +9,6 @@ use Rattle.kinds.specs.Brief.{eventOf}
 use Rattle.brief.proofs.Outside.{event-stuck, event-locks, event-loads, event-stores}
 use Rattle.turns.proofs.loaded_on.Statement.{statement}
 use Rattle.turns.proofs.loaded_on.Tie as tie
-use Rattle.turns.proofs.loaded_on.Reads as reads
-use Rattle.turns.proofs.loaded_on.Lts as lts
-use Rattle.turns.proofs.stuck_by.Reads as stuck-by-reads
-use Rattle.locking.proofs.locked_now.Reads as locked-now-reads
-use Rattle.store.proofs.stored.Reads as stored-reads
 
 stuck-by-requires : tie.Need-stuck-by-requires
 stuck-by-requires c κs = let p = c .before .before .before .before .before .before .before .before .pre in (p .1, good-name _ _ (p .0))

@@ -1,18 +1,7 @@
-use Prim.Native.Nat.{ℕ, suc, _+_, _*_, _-_, _≤_, _<_, _/_, _%_}
-use mathlib.Core.Path.{_≡_, refl, ap, sym, _∙_}
-use mathlib.Core.List.{List, [], _∷_, _++_}
-use native.Mathlib.Omega.{arith}
-use native.Mathlib.Numerals.{add-one}
-use lib.ListN.{length, take, drop, set, getD, length-set, length-take, length-drop, length-append}
-use denote.Ref.{now}
+use mathlib.Core.Path.{sym, _∙_}
 use borrow.Author.Needs.{needs}
 use Rattle.turns.proofs.turn.Statement.{statement}
 use Rattle.turns.proofs.turn.Tie as tie
-use Rattle.turns.proofs.turn.Reads as reads
-use Rattle.turns.proofs.turn.Lts as lts
-use Rattle.kinds.proofs.is_brief.Reads as is-brief-reads
-use Rattle.brief.proofs.lived.Reads as lived-reads
-use Rattle.turns.proofs.loaded.Reads as loaded-reads
 
 is-brief-requires : tie.Need-is-brief-requires
 is-brief-requires c κs = search needs

@@ -1,31 +1,18 @@
-use Prim.Native.Nat.{ℕ, suc, _+_, _*_, _-_, _≤_, _<_, _/_, _%_}
-use mathlib.Core.Path.{_≡_, refl, ap, sym, _∙_}
-use mathlib.Core.List.{List, [], _∷_, _++_}
+use Prim.Native.Nat.{_-_}
+use mathlib.Core.Path.{_≡_, sym, _∙_}
 use native.Mathlib.Omega.{arith}
-use native.Mathlib.Numerals.{add-one}
-use lib.ListN.{length, take, drop, set, getD, length-set, length-take, length-drop, length-append}
+use lib.ListN.{length, drop, length-drop}
 use denote.Ref.{now}
 use borrow.Author.Needs.{needs}
 use borrow.Author.Tests.{le-leb, lt-leb}
 use lib.Seq.{drop-drop}
 use mathlib.Core.Bool.{true, false}
 use Rattle.steps.specs.Steps.{stateOf}
-use Rattle.records.specs.Steps.{fitsRow}
 use Rattle.model.specs.Rules.{lengthOk}
-use Rattle.model.specs.Rows.{rowAt}
-use Rattle.model.specs.declared.Row.{Row}
-use Rattle.soundness.specs.Keeps.{Ruled}
 use Rattle.values.proofs.Sizes.{row-steps, sized-of}
 use Rattle.records.proofs.Chains.{f-refuses, f-spans, f-whole, f-cut}
 use Rattle.values.proofs.from_f.Statement.{statement}
 use Rattle.values.proofs.from_f.Tie as tie
-use Rattle.values.proofs.from_f.Reads as reads
-use Rattle.values.proofs.from_f.Lts as lts
-use Rattle.steps.proofs.failed_by.Reads as failed-by-reads
-use Rattle.values.proofs.fits_row.Reads as fits-row-reads
-use Rattle.values.proofs.spanned_at.Reads as spanned-at-reads
-use Rattle.content.proofs.whole_at.Reads as whole-at-reads
-use Rattle.rows.proofs.row_at.Reads as row-at-reads
 
 row-at-requires : tie.Need-row-at-requires
 row-at-requires c κs = search needs

@@ -1,9 +1,5 @@
-use Prim.Native.Nat.{ℕ, suc, _+_, _*_, _-_, _≤_, _<_, _/_, _%_}
-use mathlib.Core.Path.{_≡_, refl, ap, sym, _∙_}
-use mathlib.Core.List.{List, [], _∷_, _++_}
-use native.Mathlib.Omega.{arith}
-use native.Mathlib.Numerals.{add-one}
-use lib.ListN.{length, take, drop, set, getD, length-set, length-take, length-drop, length-append}
+use Prim.Native.Nat.{ℕ}
+use mathlib.Core.Path.{sym, _∙_}
 use denote.Ref.{now}
 use borrow.Author.Needs.{needs}
 use Rattle.values.proofs.Openings.{spans-record}
@@ -12,15 +8,10 @@ use mathlib.Core.Path.{subst}
 use Rattle.soundness.proofs.Parts.{sound-parts}
 use Rattle.steps.specs.Steps.{stateOf, activeLife}
 use Rattle.soundness.specs.Keeps.{Ruled}
-use Rattle.model.specs.Rules.{spanned, fed, openedAs}
+use Rattle.model.specs.Rules.{spanned, fed}
 use Rattle.values.proofs.Openings.{table-opens, record-opens, record-over}
 use Rattle.values.proofs.spanned_at.Statement.{statement}
 use Rattle.values.proofs.spanned_at.Tie as tie
-use Rattle.values.proofs.spanned_at.Reads as reads
-use Rattle.values.proofs.spanned_at.Lts as lts
-use Rattle.laying.proofs.record_fed.Reads as record-fed-reads
-use Rattle.feed.proofs.table_fed.Reads as table-fed-reads
-use Rattle.steps.proofs.with_open.Reads as with-open-reads
 
 with-open-requires : tie.Need-with-open-requires
 with-open-requires c κs = search needs
