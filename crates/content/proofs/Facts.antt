@@ -1,24 +1,32 @@
 -- Facts of the values that stay whole.
-use Prim.Native.Nat.{ℕ, suc, _+_, _-_, _≤_}
-use mathlib.Core.Path.{_≡_, refl, ap, sym, _∙_, subst}
+use Prim.Native.Nat.{ℕ, _+_, _-_, _≤_, _<_, min}
+use mathlib.Core.Path.{_≡_, refl, ap, sym, _∙_}
+use mathlib.Core.Bool.{Bool, true, false, cond}
 use mathlib.Core.List.{List, [], _∷_}
 use native.Mathlib.Omega.{arith}
-use lib.ListN.{length, set, take, drop, length-drop}
+use borrow.Author.Tests.{eq-eqb, ne-eqb}
+use lib.Dec.{eqb, ltb, eqb→eq}
+use lib.ListN.{length, set, drop, length-drop}
 use lib.Seq.{length-take-le, drop-drop}
-use Rattle.lists.specs.Bytes.{padded, padded-full, part}
+use Rattle.lists.specs.Bytes.{byteAt, padded, padded-full, part}
 use Rattle.model.specs.declared.Head.{Head}
 use Rattle.model.specs.declared.Loading.{Loading}
-use Rattle.model.specs.declared.Verdict.{Verdict}
-use Rattle.model.specs.declared.Verdict.the-variants.{Passes, Refuses}
-use Rattle.model.specs.Loads.{withTaken}
-use Rattle.model.specs.Rules.{went, failed, kept, whole}
-use Rattle.steps.specs.declared.Taken.{Taken}
-use Rattle.steps.specs.Steps.{stateOf, judgedAs, took}
+use Rattle.model.specs.declared.Secret.{Secret}
+use Rattle.model.specs.Loads.{withTaken, withSerial, withStartup, withCounter, withSecret, changed}
+use Rattle.model.specs.Rules.{Result, went, failed, does, startupOk, startup, counterOf, kept, whole}
+use Rattle.steps.specs.Steps.{stateOf}
+use Rattle.content.specs.Kept.{wordOf, startupOf, keptOf}
 
--- a value's bytes in an array, the first one another
-pub first-set : (n x : ℕ) (v : List ℕ) → length v ≡ suc n → set (padded (suc n) v) 0 x ≡ x ∷ drop 1 v
-first-set n x [] e = absurd (omega arith)
-first-set n x (b ∷ bs) e = ap (λ (l : List ℕ). set l 0 x) (padded-full (suc n) (b ∷ bs) e)
+-- startup information in an array: its first byte stays, or is the capacity
+pub first-stays : (c : ℕ) (v : List ℕ) → length v ≡ 7 → byteAt v 0 ≤ c → padded 7 v ≡ startupOf c v
+first-stays c [] e h = absurd (omega arith)
+first-stays c (b ∷ bs) e h = let m : b ≡ min b c = omega arith in padded-full 7 (b ∷ bs) e ∙ ap (λ (x : ℕ). x ∷ bs) m
+
+pub first-set : (c : ℕ) (v : List ℕ) → length v ≡ 7 → c < byteAt v 0 → set (padded 7 v) 0 c ≡ startupOf c v
+first-set c [] e h = absurd (omega arith)
+first-set c (b ∷ bs) e h =
+    let m : c ≡ min b c = omega arith in
+    ap (λ (l : List ℕ). set l 0 c) (padded-full 7 (b ∷ bs) e) ∙ ap (λ (x : ℕ). x ∷ bs) m
 
 -- a value that lies in the data
 module _ (d : List ℕ) (at n : ℕ) where
@@ -30,20 +38,58 @@ module _ (d : List ℕ) (at n : ℕ) where
   pub value-bytes : part d at (at + n - at) ≡ part d at n
   value-bytes = let k : at + n - at ≡ n = omega arith in rw k
 
--- what a kept value comes to
-module _ (capacity row at : ℕ) (h : Head) (d a : List ℕ) (l : Loading) (t : Taken)
-    (e : took t a ≡ kept capacity row (part d at (at + h .len - at)) (stateOf l a)) where
-  told : (v : Verdict) → t .verdict ≡ v → kept capacity row (part d at (h .len)) (stateOf l a) ≡ judgedAs v (stateOf (t .load) a)
-  told v f =
-      ap (λ (x : List ℕ). kept capacity row x (stateOf l a)) (sym (value-bytes d at (h .len)))
-      ∙ sym e
-      ∙ ap (λ (x : Verdict). judgedAs x (stateOf (t .load) a)) f
+-- a fine value is kept, and any other's word is the command's
+abbrev told : ℕ → Loading → Loading → List ℕ → Result ℕ
+told w l k a = cond (eqb w 0x9000) (went 0 (stateOf k a)) (failed w (stateOf l a))
 
-  pub whole-passes : (n : ℕ) → t .verdict ≡ Passes n
-      → went (drop (at + h .len) d) (stateOf (withTaken row (t .load)) a) ≡ whole capacity row h (drop at d) (stateOf l a)
-  unfolding whole
-  whole-passes n f = rw (told (Passes n) f, drop-drop (h .len) at d)
+module _ (capacity row : ℕ) (v : List ℕ) (l : Loading) (a : List ℕ) where
+  pub kept-told : kept capacity row v (stateOf l a) ≡ told (wordOf capacity row v) l (keptOf capacity row v l) a
+  unfolding kept startup
+  kept-told = go (eqb row 3) refl
+    where
+      next : Loading
+      next = withStartup (startupOf capacity v) l
 
-  pub whole-refused : (w : ℕ) → t .verdict ≡ Refuses w → failed w (stateOf (t .load) a) ≡ whole capacity row h (drop at d) (stateOf l a)
+      three : (b c : Bool)
+          → cond b (cond c (failed 0x6A84 (stateOf l a)) (went 0 (stateOf next a))) (failed 0x6A80 (stateOf l a))
+          ≡ told (cond b (cond c 0x6A84 0x9000) 0x6A80) l next a
+      three true true = refl
+      three true false = refl
+      three false c = refl
+
+      secret : Secret
+      secret = record { bytes = padded 64 v; len = length v }
+
+      others : (b c : Bool)
+          → cond b (does (changed (withSerial v)))
+          (cond c (does (changed (withCounter (counterOf v)))) (does (changed (withSecret (row - 6) secret)))) (stateOf l a)
+          ≡ went 0 (stateOf (cond b (withSerial v l) (cond c (withCounter (counterOf v) l) (withSecret (row - 6) secret l))) a)
+      others true c = refl
+      others false true = refl
+      others false false = refl
+
+      go : (b : Bool) → eqb row 3 ≡ b
+          → kept capacity row v (stateOf l a) ≡ told (wordOf capacity row v) l (keptOf capacity row v l) a
+      go true e = let q : row ≡ 3 = eqb→eq row 3 (rw e tt) in rw q (three (startupOk v) (ltb capacity 6))
+      go false e = rw e (others (eqb row 2) (eqb row 4))
+
+-- what a grouping comes to by the word of its content
+module _ (capacity row at : ℕ) (h : Head) (d a : List ℕ) (l : Loading) (w : ℕ)
+    (e : w ≡ wordOf capacity row (part d at (at + h .len - at))) where
+  abbrev next : Loading
+  next = keptOf capacity row (part d at (at + h .len - at)) l
+
+  told-as : kept capacity row (part d at (h .len)) (stateOf l a) ≡ told w l next a
+  told-as =
+      ap (λ (v : List ℕ). kept capacity row v (stateOf l a)) (sym (value-bytes d at (h .len)))
+      ∙ kept-told capacity row (part d at (at + h .len - at)) l a
+      ∙ ap (λ (z : ℕ). told z l next a) (sym e)
+
+  pub whole-passes : w ≡ 0x9000
+      → went (drop (at + h .len) d) (stateOf (withTaken row next) a) ≡ whole capacity row h (drop at d) (stateOf l a)
   unfolding whole
-  whole-refused w f = rw (told (Refuses w) f)
+  whole-passes f = rw (told-as, eq-eqb w 0x9000 f, drop-drop (h .len) at d)
+
+  pub whole-refused : (w ≡ 0x9000 → ⊥) → failed w (stateOf l a) ≡ whole capacity row h (drop at d) (stateOf l a)
+  unfolding whole
+  whole-refused f = rw (told-as, ne-eqb w 0x9000 f)

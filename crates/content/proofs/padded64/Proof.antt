@@ -1,17 +1,8 @@
-use Prim.Native.Nat.{ℕ, suc, _+_, _*_, _-_, _≤_, _<_, _/_, _%_}
-use mathlib.Core.Path.{_≡_, refl, ap, sym, _∙_}
-use mathlib.Core.List.{List, [], _∷_, _++_}
-use native.Mathlib.Omega.{arith}
-use native.Mathlib.Numerals.{add-one}
-use lib.ListN.{length, take, drop, set, getD, length-set, length-take, length-drop, length-append}
-use denote.Ref.{now}
+use mathlib.Core.Path.{_∙_}
 use Rattle.lists.specs.Over.{over-padded}
 use borrow.Author.Needs.{needs}
 use Rattle.content.proofs.padded64.Statement.{statement}
 use Rattle.content.proofs.padded64.Tie as tie
-use Rattle.content.proofs.padded64.Reads as reads
-use Rattle.content.proofs.padded64.Lts as lts
-use Rattle.slices.proofs.lay.Reads as lay-reads
 
 slice-aggregate-lay : tie.Need-slice-aggregate-lay
 slice-aggregate-lay c = search needs

@@ -1,0 +1,47 @@
+use Prim.Native.Nat.{ℕ}
+use mathlib.Core.Path.{ap, _∙_}
+use mathlib.Core.List.{List}
+use native.Mathlib.Omega.{arith}
+use lib.ListN.{set}
+use denote.Ref.{now}
+use borrow.Author.Needs.{needs}
+use Rattle.lists.specs.Over.{over-padded}
+use Rattle.content.proofs.Facts.{first-stays, first-set}
+use Rattle.content.proofs.startup_of.Statement.{statement}
+use Rattle.content.proofs.startup_of.Tie as tie
+
+slice-aggregate-lay : tie.Need-slice-aggregate-lay
+slice-aggregate-lay c = search needs
+
+lay-requires : tie.Need-lay-requires
+lay-requires c κs = search needs
+
+shared-slice-read-if1 : tie.Need-shared-slice-read-if1
+shared-slice-read-if1 c = search needs
+
+array-write-b : tie.Need-array-write-b
+array-write-b c = search needs
+
+returns : tie.Need-returns
+returns c =
+    let y = c .before .before .before in
+    let s = y .before .before .before in
+    let e = y .lay .ensures ∙ over-padded 7 _ (omega (arith, s .pre)) in
+    ap (λ (x : List ℕ). set x 0 (s .args .capacity)) e ∙ first-set _ (now (s .args .v)) (s .pre) (c .if1 .taken)
+
+returns-2 : tie.Need-returns-2
+returns-2 c =
+    let y = c .before .before .before in
+    let s = y .before .before .before in
+    y .lay .ensures ∙ over-padded 7 _ (omega (arith, s .pre)) ∙ first-stays _ (now (s .args .v)) (s .pre) (c .if1 .left)
+
+pub startup-of-spec : {M : Type 1} → statement M
+startup-of-spec =
+    tie.close
+    (tie.spec
+    slice-aggregate-lay
+    lay-requires
+    shared-slice-read-if1
+    array-write-b
+    returns
+    returns-2)
