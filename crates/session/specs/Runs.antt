@@ -1,12 +1,15 @@
 -- What the answer of a session says.
-use Prim.Native.Nat.{ℕ}
+use Prim.Native.Nat.{ℕ, _/_, _%_, _≤_}
 use mathlib.Core.Path.{_≡_}
+use mathlib.Core.Bool.{true}
 use mathlib.Core.List.{List, []}
 use lib.ListN.{length}
 use Rattle.lists.specs.Over.{overwrite}
 use Rattle.model.specs.declared.Card.{Card}
 use Rattle.model.specs.declared.Ran.{Ran}
-use Rattle.model.specs.Session.{Run, Session, runFrom, recordsIn}
+use Rattle.model.specs.Stored.{areaSize, recordSize}
+use Rattle.model.specs.Sound.{sound}
+use Rattle.model.specs.Session.{Run, Session, runFrom, recordsIn, noRun, runOf}
 
 -- a session that begins on a card
 abbrev pub begun : Card → List ℕ → Run
@@ -29,3 +32,17 @@ pub record Runs (s : Session) (r : Ran) (area before after : List ℕ) : Type 0 
   pub leaves : r .card ≡ s .run .card
   pub keeps : area ≡ s .run .area
   pub writes : after ≡ overwrite before 0 (s .run .words)
+
+-- what the checks ask: n, m and k are the sizes of the file area, of the session's bytes and of the lent list of words
+pub record Allowed (c : Card) (n m k : ℕ) : Type 0 where
+  pub area : n ≡ areaSize
+  pub sound : sound c ≡ true
+  pub files : length (c .loading .files) ≡ 31
+  pub whole : m % recordSize ≡ 0
+  pub room : m / recordSize ≤ k
+
+-- the number that the checks tell: 0 where all is as they ask, else the session's own
+abbrev pub Checked : ℕ → Card → ℕ → ℕ → ℕ → Type 0
+Checked r c n m k =
+    (r ≡ 0 → Allowed c n m k)
+    × ((r ≡ 0 → ⊥) → (a b : List ℕ) → length a ≡ n → length b ≡ m → runOf c a k b ≡ noRun r c a)

@@ -1,95 +1,125 @@
-use Prim.Native.Nat.{ℕ, suc, _+_, _*_, _-_, _≤_, _<_, _/_, _%_}
-use mathlib.Core.Path.{_≡_, refl, ap, sym, _∙_}
-use mathlib.Core.List.{List, [], _∷_, _++_}
+use mathlib.Core.Logic.{⊎-elim}
+use Prim.Native.Nat.{_-_}
+use mathlib.Core.Path.{refl, sym}
 use native.Mathlib.Omega.{arith}
-use native.Mathlib.Numerals.{add-one}
-use lib.ListN.{length, take, drop, set, getD, length-set, length-take, length-drop, length-append}
-use denote.Ref.{now}
+use native.Mathlib.Nat.{add-sub-cancel-left, le-add-right}
+use lib.ListN.{length-take, length-drop}
 use borrow.Author.Needs.{needs}
-use Rattle.session.proofs.Running.{run-1, run-6, run-3, run-11, run-0}
+use Rattle.session.proofs.Running.{Going, begins, begins-none, still-good, record-within, as-many-words, goes-on, all-run}
 use Rattle.session.proofs.run.Statement.{statement}
 use Rattle.session.proofs.run.Tie as tie
-use Rattle.session.proofs.run.Reads as reads
-use Rattle.session.proofs.run.Lts as lts
-use Rattle.session.proofs.not_run.Reads as not-run-reads
-use Rattle.session.proofs.run_all.Reads as run-all-reads
-use Rattle.sound.proofs.is_sound.Reads as is-sound-reads
 
-not-run-requires : tie.Need-not-run-requires
-not-run-requires c κs = search needs
+abbrev Inv-loop : tie.InvT-loop
+Inv-loop c₀ area₀ session words₀ number k answer₀ i₀ c area words answer i = Going c₀ area₀ session words₀ number k i c area words answer
 
-returns : tie.Need-returns
-returns c = run-1 _ _ _ _ (c .not-run .ensures) (c .before .if1 .taken)
+abbrev μ-loop : tie.MeasureT-loop
+μ-loop c₀ area₀ session words₀ number k answer₀ i₀ c area words answer i = k - i
 
-is-sound-requires : tie.Need-is-sound-requires
-is-sound-requires c κs = search needs
+refusal-requires : tie.Need-refusal-requires Inv-loop μ-loop
+refusal-requires c κs = search needs
 
-not-run-requires-2 : tie.Need-not-run-requires-2
-not-run-requires-2 c κs = search needs
+loop-holds : tie.Need-loop-holds Inv-loop μ-loop
+loop-holds c =
+    let h = c .before .refusal .ensures in
+    ⊎-elim (λ x. begins _ _ _ _ _ _ _ refl h (x .0 .taken) (x .1)) (λ x. begins-none _ _ _ _ _ _ _ refl h (x .0 .left) (x .1))
+    (c .if1 .came)
 
-returns-2 : tie.Need-returns-2
-returns-2 c =
-    let if2 = c .before .before .if2 in
-    let is-sound = c .before .before .before .is-sound in
-    let if1 = c .before .before .before .before .if1 in
-    run-3 _ _ _ _ (c .not-run2 .ensures) (if1 .left) (sym (is-sound .ensures .0) ∙ if2 .taken) (c .before .if3 .taken)
+mul-at : tie.Need-mul-at Inv-loop μ-loop
+mul-at c =
+    let s = c .before .before .before .before .before .before .before in
+    omega (arith, c .loop-test .taken, c .before .loop .inv .bytes, s .good .1 .1 .0)
 
-not-run-requires-3 : tie.Need-not-run-requires-3
-not-run-requires-3 c κs = search needs
+slice-aggregate-turn : tie.Need-slice-aggregate-turn Inv-loop μ-loop
+slice-aggregate-turn c = sym (c .before .before .before .loop .inv .room)
 
-returns-3 : tie.Need-returns-3
-returns-3 c =
-    let if3 = c .before .before .if3 in
-    let if2 = c .before .before .before .if2 in
-    let is-sound = c .before .before .before .before .is-sound in
-    let if1 = c .before .before .before .before .before .if1 in
-    run-11 _ _ _ _ (c .not-run3 .ensures) (if1 .left) (sym (is-sound .ensures .0) ∙ if2 .taken) (if3 .left) (c .before .if4 .taken)
+add-turn : tie.Need-add-turn Inv-loop μ-loop
+add-turn c =
+    let t = c .before .before in
+    let g = t .before .loop .inv in
+    let s = t .before .before .before .before .before .before .before in
+    omega (arith, t .loop-test .taken, g .bytes, s .good .1 .1 .0)
 
-run-all-requires : tie.Need-run-all-requires
-run-all-requires c κs =
-    let if4 = c .before .before .if4 in
-    let if2 = c .before .before .before .before .if2 in
-    let is-sound = c .before .before .before .before .before .is-sound in
-    let if1 = c .before .before .before .before .before .before .if1 in
-    (record { sound = sym (is-sound .ensures .0) ∙ if2 .taken; files = is-sound .ensures .1; area = if1 .left }, omega arith, if4 .left)
+sub-turn : tie.Need-sub-turn Inv-loop μ-loop
+sub-turn c = le-add-right _ _
 
-same-length : tie.Need-same-length
-same-length c = search needs
+part-turn-start : tie.Need-part-turn-start Inv-loop μ-loop
+part-turn-start c = le-add-right _ _
 
-same-length-2 : tie.Need-same-length-2
-same-length-2 c = search needs
+part-turn-end : tie.Need-part-turn-end Inv-loop μ-loop
+part-turn-end c =
+    let t = c .before .before in
+    record-within _ _ _ _ _ _ _ (t .before .loop .inv) (t .loop-test .taken)
 
-returns-4 : tie.Need-returns-4
-returns-4 c =
-    let run-all = c .before .before .before .before .run-all in
-    let if4 = c .before .before .before .before .before .before .before .if4 in
-    let if3 = c .before .before .before .before .before .before .before .before .if3 in
-    let if2 = c .before .before .before .before .before .before .before .before .before .if2 in
-    let is-sound = c .before .before .before .before .before .before .before .before .before .before .is-sound in
-    let if1 = c .before .before .before .before .before .before .before .before .before .before .before .if1 in
-    run-0 _ _ _ _ (if1 .left) (sym (is-sound .ensures .0) ∙ if2 .taken) (if3 .left) (if4 .left) (run-all .ensures)
+turn-requires : tie.Need-turn-requires Inv-loop μ-loop
+turn-requires c κs =
+    let t = c .before .before .before in
+    let g = t .before .loop .inv in (
+      still-good _ _ _ _ _ _ _ g (t .loop-test .taken),
+      omega (arith, g .room),
+      simp (length-take, length-drop) (omega (arith, g .bytes, t .loop-test .taken)),
+    )
 
-not-run-requires-4 : tie.Need-not-run-requires-4
-not-run-requires-4 c κs = search needs
+mul-words : tie.Need-mul-words Inv-loop μ-loop
+mul-words c =
+    let t = c .before .before .before .before .before .before .before in
+    let g = t .before .loop .inv in
+    let s = t .before .before .before .before .before .before .before in
+    omega (arith, t .loop-test .taken, g .bytes, s .good .1 .1 .0)
 
-returns-5 : tie.Need-returns-5
-returns-5 c =
-    run-6 _ _ _ _ (c .not-run4 .ensures) (c .before .before .before .if1 .left) (sym (c .before .before .is-sound .ensures .0) ∙ c .before .if2 .left)
+slice-write-words : tie.Need-slice-write-words Inv-loop μ-loop
+slice-write-words c =
+    let t = c .before .before .before .before .before .before .before in
+    let g = t .before .loop .inv in
+    rw (as-many-words _ _ _ _ _ _ _ g) (omega (arith, t .loop-test .taken, g .places))
+
+add-i : tie.Need-add-i Inv-loop μ-loop
+add-i c =
+    let n = c .before .before .before .before .before .before .before .before in
+    let g = n .before .loop .inv in
+    let s = n .before .before .before .before .before .before .before in
+    omega (arith, n .loop-test .taken, g .bytes, s .good .1 .1 .0)
+
+loop-less : tie.Need-loop-less Inv-loop μ-loop
+loop-less c =
+    let l = c .before .before .before .before .before .before .before .before in
+    omega (arith, l .loop-test .taken)
+
+loop-again : tie.Need-loop-again Inv-loop μ-loop
+loop-again c =
+    let o = c .before .before .before .before in
+    let t = o .before .before .before .before in
+    goes-on _ _ _ _ _ _ _ (t .before .loop .inv) _ _ _ _ (t .loop-test .taken) (rw add-sub-cancel-left)
+    (o .turn .kept .1 .0) (o .turn .kept .1 .1 .0) (o .turn .ensures)
+
+same-length : tie.Need-same-length Inv-loop μ-loop
+same-length c = c .before .loop .inv .keeps
+
+same-length-2 : tie.Need-same-length-2 Inv-loop μ-loop
+same-length-2 c = as-many-words _ _ _ _ _ _ _ (c .before .loop .inv)
+
+returns : tie.Need-returns Inv-loop μ-loop
+returns c = all-run _ _ _ _ _ _ _ (c .before .loop .inv) (c .loop-test .left)
 
 pub run-spec : {M : Type 1} → statement M
 run-spec =
     tie.close
     (tie.spec
-    not-run-requires
-    returns
-    is-sound-requires
-    not-run-requires-2
-    returns-2
-    not-run-requires-3
-    returns-3
-    run-all-requires
+    Inv-loop
+    μ-loop
+    refusal-requires
+    loop-holds
+    mul-at
+    slice-aggregate-turn
+    add-turn
+    sub-turn
+    part-turn-start
+    part-turn-end
+    turn-requires
+    mul-words
+    slice-write-words
+    add-i
+    loop-less
+    loop-again
     same-length
     same-length-2
-    returns-4
-    not-run-requires-4
-    returns-5)
+    returns)
