@@ -20,6 +20,10 @@ zeros-mid b z n k h e =
     ∙ rw (drop-of-length-le (part b n k) {i = length (zeros k)} (omega arith)) (append-nil (zeros k)) in
     rw (e, l) (rw f at (over-mid b (zeros k) n k (omega arith) h))
 
+-- a record's data ends where the record does, or before
+pub data-within : (to n : ℕ) → n ≤ dataRoom → to + 4 + n ≤ to + recordSize
+data-within to n h = omega arith
+
 -- a record's four bytes, its data, and zeros up to its end
 pub record-laid : (a b d z bytes : List ℕ) (to p1 : ℕ) → length bytes ≤ dataRoom → to + recordSize ≤ length a
     → b ≡ overwrite a to (2 ∷ p1 ∷ 0 ∷ length bytes ∷ []) → d ≡ overwrite b (to + 4) bytes

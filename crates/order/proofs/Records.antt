@@ -48,6 +48,9 @@ module _ (order room₀ : List ℕ) (from : ℕ) where
     pub lays : overwrite room₀ from (joined (storedAll (cutOf order))) ≡ overwrite room to (joined (storedAll (commandAt start end ∷ commandsFrom order end)))
     pub fitting : Fitting (unitsFrom order end)
 
+  pub start-within : {room : List ℕ} {start : ℕ} {end : Place} {to : ℕ} → Laid room start end to → start ≤ length order
+  start-within x = omega (arith, x .forth, x .within)
+
   pub laid-none : (end : Place) → Command order atStart end → from + length (cutOf order) * recordSize ≤ length room₀ → Laid room₀ 0 end from
   laid-none end c h =
       let k : length (cutOf order) ≡ 1 + length (commandsFrom order end) = rw (first-cut order end c) (omega arith) in

@@ -5,7 +5,7 @@ ghost use Prim.Native.Nat.{_+_, _*_, _≤_};
 ghost use lib.ListN.{length};
 ghost use Rattle.lists.specs.Over.{overwrite};
 ghost use Rattle.model.specs.Stored.{dataRoom, recordSize};
-ghost use Rattle.model.specs.Order.{cutOf, storedAll, recordsFor, stored};
+ghost use Rattle.model.specs.Order.{recordsFor, stored};
 ghost use Rattle.cuts.specs.Cuts.{cuttable, joined};
 
 const RECORD_SIZE: usize = 260;
@@ -27,14 +27,15 @@ fn lay_record(room: &mut [u8], to: usize, p1: u8, bytes: &[u8])
     slices::clear(&mut room[to + FRONT_SIZE + n..to + RECORD_SIZE]);
 }
 
-// A record a command from a place of the room on, P1 '80' on the last.
-fn lay_commands(order: &[u8], room: &mut [u8], from: usize)
-    requires { ⌜ cuttable (now order) × (from + length (cutOf (now order)) * recordSize ≤ length (now room)) ⌝ }
-    ensures { λ _. ⌜ now (room .exit) ≡ overwrite (now (room .entry)) from (joined (storedAll (cutOf (now (order .entry))))) ⌝ }
+// The writer's records: '9484', then a record a command of the order, P1 '80' on the last.
+pub fn lay_records(order: &[u8], room: &mut [u8])
+    requires { ⌜ cuttable (now order) × (length (recordsFor (now order)) * recordSize ≤ length (now room)) ⌝ }
+    ensures { λ _. ⌜ now (room .exit) ≡ overwrite (now (room .entry)) 0 (joined (recordsFor (now (order .entry)))) ⌝ }
 {
+    lay_record(room, 0, 0x01, b"\x94\x84\x00");
+    let mut to = RECORD_SIZE;
     let mut start: usize = 0;
     let mut end = cuts::command_end(order, Place { at: 0, inside: 0 });
-    let mut to = from;
     while end.at < order.len() {
         let next = end.at;
         lay_record(room, to, 0x00, &order[start..next]);
@@ -43,13 +44,4 @@ fn lay_commands(order: &[u8], room: &mut [u8], from: usize)
         end = cuts::command_end(order, end);
     }
     lay_record(room, to, 0x80, &order[start..]);
-}
-
-// The writer's records: '9484', then the order's bytes, cut.
-pub fn lay_records(order: &[u8], room: &mut [u8])
-    requires { ⌜ cuttable (now order) × (length (recordsFor (now order)) * recordSize ≤ length (now room)) ⌝ }
-    ensures { λ _. ⌜ now (room .exit) ≡ overwrite (now (room .entry)) 0 (joined (recordsFor (now (order .entry)))) ⌝ }
-{
-    lay_record(room, 0, 0x01, b"\x94\x84\x00");
-    lay_commands(order, room, RECORD_SIZE);
 }
