@@ -11,7 +11,7 @@ const ENDED: u8 = 1;
 const BROKEN: u8 = 2;
 
 // One pull of the order: the grouping at a place, or which of the two endings.
-pub fn pull_at(order: &[u8], at: usize) -> Pulled
+fn pull_at(order: &[u8], at: usize) -> Pulled
     ensures { λ r. ⌜ r ≡ pullOf (now (order .entry)) at ⌝ }
 {
     if order.len() <= at {

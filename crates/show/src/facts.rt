@@ -180,8 +180,9 @@ fn write_lengths(secrets: [Secret; 5]) {
 }
 
 // The rows taken with their count, and the secrets' lengths.
-fn write_loaded(l: Loading, taken: u32) {
+fn write_loaded(l: Loading) {
     let secrets = l.secrets;
+    let taken = sets::count(l.rows);
     write_form(b"\n\nRows taken: #", taken as u64, 0, 0);
     write_rows(l.rows, l.last);
     write(b"\n\nSecrets, their lengths only");
@@ -196,5 +197,5 @@ pub fn write_facts(c: Card, count: u64) {
     write_states(life, l.internal);
     write_events(count);
     write_kept(l);
-    write_loaded(l, showing::taken(c));
+    write_loaded(l);
 }

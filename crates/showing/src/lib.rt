@@ -1,8 +1,7 @@
-// A file's record, shown as the part of the file area where it is stored; and how many rows have been taken.
+// A file's record, shown as the part of the file area where it is stored.
 use model::Card;
 use model::Spot;
 ghost use mathlib.Core.Path.{_≡_};
-ghost use Rattle.model.specs.Rows.{takenOf};
 ghost use Rattle.model.specs.Session.{shownOf};
 ghost use Rattle.showing.specs.Shows.{Shows};
 
@@ -33,11 +32,4 @@ pub fn shown<'a>(c: Card, area: &'a [u8], sfi: u8, nn: u8, number: &mut u8) -> &
     }
     *number = 6;
     &area[..0]
-}
-
-// How many rows have been taken.
-pub fn taken(c: Card) -> u32
-    ensures { λ n. ⌜ n ≡ takenOf (c .loading .rows) ⌝ }
-{
-    sets::count(c.loading.rows)
 }
