@@ -82,7 +82,7 @@ fn fresh_card(chip: Chip) -> Card
 }
 
 // A chip record of the right form: 40 bytes, the last three zero.
-pub fn is_chip(chip: &[u8]) -> bool
+fn is_chip(chip: &[u8]) -> bool
     ensures { λ r. ⌜ r ≡ chipForm (now (chip .entry)) ⌝ }
 {
     if chip.len() == CHIP_SIZE {
@@ -102,7 +102,7 @@ fn padded4(s: &[u8]) -> [u8; 4]
 }
 
 // The chip's facts.
-pub fn chip_of(chip: &[u8]) -> Chip
+fn chip_of(chip: &[u8]) -> Chip
     requires { ⌜ length (now chip) ≡ chipSize ⌝ }
     ensures { λ r. ⌜ r ≡ chipOf (now (chip .entry)) ⌝ }
 {

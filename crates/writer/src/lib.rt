@@ -5,7 +5,7 @@ ghost use Prim.Native.Nat.{ℕ, _≤_};
 ghost use lib.ListN.{length};
 ghost use Rattle.model.specs.Order.{complete, recordsFor, noWriting, writeOf};
 ghost use Rattle.cuts.specs.Cuts.{cuttable};
-ghost use Rattle.complete.specs.Writes.{Writes, cutFor, writeFor};
+ghost use Rattle.complete.specs.Writes.{Writes, cutFor};
 
 const ORDER_LIMIT: usize = 8192;
 
@@ -37,26 +37,19 @@ fn cut_into(order: &[u8], room: &mut [u8]) -> Written
     }
 }
 
-// The order for a chip of this capacity: numbers 9, 10 and 11.
-fn write_for(capacity: u8, order: &[u8], room: &mut [u8]) -> Written
-    ensures { λ r. ⌜ Writes (writeFor capacity (now (order .entry)) (length (now (room .entry)))) (now (room .entry)) r (now (room .exit)) ⌝ }
-{
-    if ORDER_LIMIT < order.len() {
-        return refused_by(9);
-    }
-    if complete::is_complete(capacity, order) {
-        return cut_into(order, room);
-    }
-    refused_by(10)
-}
-
 // The order for the chip of this record, cut into records in the lent room: numbers 7, 9, 10 and 11.
 pub fn write(chip: &[u8], order: &[u8], room: &mut [u8]) -> Written
     ensures { λ r. ⌜ Writes (writeOf (now (chip .entry)) (now (order .entry)) (length (now (room .entry)))) (now (room .entry)) r (now (room .exit)) ⌝ }
 {
-    if fresh::is_chip(chip) {
-        let known = fresh::chip_of(chip);
-        return write_for(known.capacity, order, room);
+    let made = fresh::fresh(chip);
+    if made.number != 0 {
+        return refused_by(made.number);
     }
-    refused_by(7)
+    if ORDER_LIMIT < order.len() {
+        return refused_by(9);
+    }
+    if complete::is_complete(made.card.chip.capacity, order) {
+        return cut_into(order, room);
+    }
+    refused_by(10)
 }

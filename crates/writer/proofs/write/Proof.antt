@@ -1,52 +1,79 @@
 use mathlib.Core.Path.{sym, _∙_}
+use native.Mathlib.Omega.{arith}
 use lib.ListN.{length}
 use denote.Ref.{now}
 use borrow.Author.Needs.{needs}
-use Rattle.writer.proofs.Numbers.{no-form, has-form}
-use Rattle.fresh.proofs.Chips.{form-size}
+use Rattle.writer.proofs.Numbers.{refused, formed, too-long, not-complete, is-cut}
+use Rattle.complete.proofs.Complete.{complete-cuttable}
+use Rattle.cutting.proofs.Commands.{records-few}
 use Rattle.writer.proofs.write.Statement.{statement}
 use Rattle.writer.proofs.write.Tie as tie
 
-is-chip-requires : tie.Need-is-chip-requires
-is-chip-requires c κs = search needs
-
-chip-of-requires : tie.Need-chip-of-requires
-chip-of-requires c κs =
-    form-size (now (c .before .before .before .before .before .args .chip)) (sym (c .before .is-chip .ensures) ∙ c .if1 .taken)
-
-write-for-requires : tie.Need-write-for-requires
-write-for-requires c κs = search needs
-
-same-length : tie.Need-same-length
-same-length c = search needs
-
-returns : tie.Need-returns
-returns c =
-    let write-for = c .before .before .write-for in
-    let chip-of = c .before .before .before .before .chip-of in
-    let if1 = c .before .before .before .before .before .if1 in
-    let is-chip = c .before .before .before .before .before .before .is-chip in
-    let s = c .before .before .before .before .before .before .before .before .before .before .args in
-    let e = sym (is-chip .ensures) ∙ if1 .taken in
-    rw (has-form (now (s .order)) (length (now (s .room))) (now (s .chip)) e, ← chip-of .ensures) (write-for .ensures)
+fresh-requires : tie.Need-fresh-requires
+fresh-requires c κs = search needs
 
 refused-by-requires : tie.Need-refused-by-requires
 refused-by-requires c κs = search needs
 
+returns : tie.Need-returns
+returns c =
+    let s = c .before .before .before .before .before .before .before .args in
+    rw (refused (now (s .order)) (length (now (s .room))) (now (s .chip)) _ (c .before .before .before .fresh .ensures) (c .before .if1 .taken))
+    (c .refused-by .ensures (now (s .room)))
+
+refused-by-requires-2 : tie.Need-refused-by-requires-2
+refused-by-requires-2 c κs = search needs
+
 returns-2 : tie.Need-returns-2
 returns-2 c =
-    let s = c .before .before .before .before .before .before .args in
-    let e = sym (c .before .before .is-chip .ensures) ∙ c .before .if1 .left in
-    rw (no-form (now (s .order)) (length (now (s .room))) (now (s .chip)) e) (c .refused-by .ensures (now (s .room)))
+    let s = c .before .before .before .before .before .before .before .before .args in
+    rw (formed (now (s .order)) (length (now (s .room))) (now (s .chip)) _ (c .before .before .before .before .fresh .ensures) (c .before .before .if1 .left),
+      too-long (now (s .order)) (length (now (s .room))) _ (c .before .if2 .taken))
+    (c .refused-by2 .ensures (now (s .room)))
+
+is-complete-requires : tie.Need-is-complete-requires
+is-complete-requires c κs = search needs
+
+cut-into-requires : tie.Need-cut-into-requires
+cut-into-requires c κs =
+    let s = c .before .before .before .before .before .before .before .before .before .before .args in
+    let e = sym (c .before .before .is-complete .ensures) ∙ c .before .if3 .taken in
+    (complete-cuttable _ (now (s .order)) e, records-few _ (now (s .order)) e (omega arith))
+
+same-length : tie.Need-same-length
+same-length c = search needs
+
+returns-3 : tie.Need-returns-3
+returns-3 c =
+    let s = c .before .before .before .before .before .before .before .before .before .before .before .before .before .args in
+    let e = sym (c .before .before .before .before .before .is-complete .ensures) ∙ c .before .before .before .before .if3 .taken in
+    rw (formed (now (s .order)) (length (now (s .room))) (now (s .chip)) _ (c .before .before .before .before .before .before .before .before .before .fresh .ensures) (c .before .before .before .before .before .before .before .if1 .left),
+      is-cut (now (s .order)) (length (now (s .room))) _ (omega arith) e)
+    (c .before .before .cut-into .ensures)
+
+refused-by-requires-3 : tie.Need-refused-by-requires-3
+refused-by-requires-3 c κs = search needs
+
+returns-4 : tie.Need-returns-4
+returns-4 c =
+    let s = c .before .before .before .before .before .before .before .before .before .before .args in
+    let e = sym (c .before .before .is-complete .ensures) ∙ c .before .if3 .left in
+    rw (formed (now (s .order)) (length (now (s .room))) (now (s .chip)) _ (c .before .before .before .before .before .before .fresh .ensures) (c .before .before .before .before .if1 .left),
+      not-complete (now (s .order)) (length (now (s .room))) _ (omega arith) e)
+    (c .refused-by3 .ensures (now (s .room)))
 
 pub write-spec : {M : Type 1} → statement M
 write-spec =
     tie.close
     (tie.spec
-    is-chip-requires
-    chip-of-requires
-    write-for-requires
-    same-length
-    returns
+    fresh-requires
     refused-by-requires
-    returns-2)
+    returns
+    refused-by-requires-2
+    returns-2
+    is-complete-requires
+    cut-into-requires
+    same-length
+    returns-3
+    refused-by-requires-3
+    returns-4)
