@@ -27,8 +27,10 @@ refused-by-requires-2 c κs = search needs
 returns-2 : tie.Need-returns-2
 returns-2 c =
     let s = c .before .before .before .before .before .before .before .before .args in
-    rw (formed (now (s .order)) (length (now (s .room))) (now (s .chip)) _ (c .before .before .before .before .fresh .ensures) (c .before .before .if1 .left),
-      too-long (now (s .order)) (length (now (s .room))) _ (c .before .if2 .taken))
+    rw (
+      formed (now (s .order)) (length (now (s .room))) (now (s .chip)) _ (c .before .before .before .before .fresh .ensures) (c .before .before .if1 .left),
+      too-long (now (s .order)) (length (now (s .room))) _ (c .before .if2 .taken),
+    )
     (c .refused-by2 .ensures (now (s .room)))
 
 is-complete-requires : tie.Need-is-complete-requires
@@ -47,8 +49,10 @@ returns-3 : tie.Need-returns-3
 returns-3 c =
     let s = c .before .before .before .before .before .before .before .before .before .before .before .before .before .args in
     let e = sym (c .before .before .before .before .before .is-complete .ensures) ∙ c .before .before .before .before .if3 .taken in
-    rw (formed (now (s .order)) (length (now (s .room))) (now (s .chip)) _ (c .before .before .before .before .before .before .before .before .before .fresh .ensures) (c .before .before .before .before .before .before .before .if1 .left),
-      is-cut (now (s .order)) (length (now (s .room))) _ (omega arith) e)
+    rw (
+      formed (now (s .order)) (length (now (s .room))) (now (s .chip)) _ (c .before .before .before .before .before .before .before .before .before .fresh .ensures) (c .before .before .before .before .before .before .before .if1 .left),
+      is-cut (now (s .order)) (length (now (s .room))) _ (omega arith) e,
+    )
     (c .before .before .cut-into .ensures)
 
 refused-by-requires-3 : tie.Need-refused-by-requires-3
@@ -58,8 +62,10 @@ returns-4 : tie.Need-returns-4
 returns-4 c =
     let s = c .before .before .before .before .before .before .before .before .before .before .args in
     let e = sym (c .before .before .is-complete .ensures) ∙ c .before .if3 .left in
-    rw (formed (now (s .order)) (length (now (s .room))) (now (s .chip)) _ (c .before .before .before .before .before .before .fresh .ensures) (c .before .before .before .before .if1 .left),
-      not-complete (now (s .order)) (length (now (s .room))) _ (omega arith) e)
+    rw (
+      formed (now (s .order)) (length (now (s .room))) (now (s .chip)) _ (c .before .before .before .before .before .before .fresh .ensures) (c .before .before .before .before .if1 .left),
+      not-complete (now (s .order)) (length (now (s .room))) _ (omega arith) e,
+    )
     (c .refused-by3 .ensures (now (s .room)))
 
 pub write-spec : {M : Type 1} → statement M
