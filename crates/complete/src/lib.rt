@@ -52,7 +52,7 @@ fn passes_behind(capacity: u8, d: &[u8]) -> bool
 {
     let load = steps::with_taken(fresh::fresh_loading(), CHALLENGE_ROW);
     let mut area = [0u8; 4096];
-    let s = load::walked(load, &mut area, capacity, 0x00, d, FRONT_SIZE);
+    let s = walk::walked(load, &mut area, capacity, 0x00, d, FRONT_SIZE);
     let course = s.course;
     match course {
         Course::Went(_) => is_ready(s.load),

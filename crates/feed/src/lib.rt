@@ -13,9 +13,9 @@ ghost use lib.ListN.{length, drop};
 ghost use Rattle.lists.specs.Over.{overwrite};
 ghost use Rattle.model.specs.declared.Open.the-variants.{Table};
 ghost use Rattle.model.specs.Loads.{withFile};
-ghost use Rattle.model.specs.Rules.{tableDone, tableByte, feeding, fed};
+ghost use Rattle.model.specs.Rules.{tableDone, tableByte, feeding};
 ghost use Rattle.soundness.proofs.Feeding.{Fed};
-ghost use Rattle.steps.specs.Steps.{stateOf, stepped, TakenTo, Sure};
+ghost use Rattle.steps.specs.Steps.{stateOf, stepped, TakenTo};
 ghost use Rattle.feed.specs.Bytes.{heldOf, Ended};
 
 const TABLE_ROW: usize = 5;
@@ -144,25 +144,5 @@ pub fn table_fed(mut l: Loading, d: &[u8], mut at: usize, mut missing: usize) ->
     Step {
         course: Course::Went(end),
         load: l,
-    }
-}
-
-// An open value takes its bytes first: what it misses, as far as the command's data goes.
-pub fn fed_first(l: Loading, area: &mut [u8], d: &[u8]) -> Step
-    requires { ⌜ Sure l (now area) ⌝ }
-    ensures { λ r. ⌜ stepped r (now (d .entry)) (now (area .exit)) ≡ fed (now (d .entry)) (stateOf l (now (area .entry))) ⌝ }
-{
-    let pending = l.pending;
-    match pending {
-        Open::Shut => Step {
-            course: Course::Went(0),
-            load: l,
-        },
-        Open::Table { held: _, missing } => table_fed(l, d, 0, missing),
-        Open::Record {
-            tag,
-            written,
-            missing,
-        } => laying::record_fed(l, area, d, 0, tag, written, missing),
     }
 }

@@ -5,53 +5,30 @@ use steps::Course;
 use steps::Step;
 ghost use mathlib.Core.Path.{_≡_};
 ghost use mathlib.Core.List.{List};
-ghost use Prim.Native.Nat.{ℕ, _-_, _≤_, _<_};
+ghost use Prim.Native.Nat.{ℕ, _-_, _≤_};
 ghost use lib.ListN.{length, drop};
-ghost use Rattle.model.specs.declared.Open.the-variants.{Shut};
-ghost use Rattle.model.specs.Rules.{thence};
+ghost use Rattle.model.specs.Rules.{thence, fed};
 ghost use Rattle.model.specs.Command.{walk, theEnd, command};
-ghost use Rattle.steps.specs.Steps.{stateOf, Sure};
+ghost use Rattle.steps.specs.Steps.{stateOf, stepped, Sure};
 ghost use Rattle.records.specs.Steps.{ended, Walking};
 
-// Groupings end to end from `at` on: as many turns as there are bytes are enough.
-pub fn walked(l: Loading, area: &mut [u8], capacity: u8, p1: u8, d: &[u8], at: usize) -> Step
-    requires { ⌜ (at ≤ length (now d)) × Walking at (now d) (stateOf l (now area)) ⌝ }
-    ensures { λ r. ⌜ ended r (now (area .exit)) ≡ walk (length (now (d .entry)) - at) capacity (length (now (d .entry))) p1 (drop at (now (d .entry))) (stateOf l (now (area .entry))) ⌝ }
+// An open value takes its bytes first: what it misses, as far as the command's data goes.
+fn fed_first(l: Loading, area: &mut [u8], d: &[u8]) -> Step
+    requires { ⌜ Sure l (now area) ⌝ }
+    ensures { λ r. ⌜ stepped r (now (d .entry)) (now (area .exit)) ≡ fed (now (d .entry)) (stateOf l (now (area .entry))) ⌝ }
 {
-    let mut load = l;
-    let mut i = at;
-    let mut turns = d.len() - at;
-    while 0 < turns {
-        // records first: a run of them leaves the rest of the loading part where it is
-        let run = records::run_from(load, area, d, i, turns);
-        load.last = run.last;
-        i = run.at;
-        turns = run.turns;
-        if d.len() <= i {
-            return Step {
-                course: Course::Went(i),
-                load: load,
-            };
-        }
-        let s = rules::grouping_at(load, area, capacity, p1, d, i);
-        let course = s.course;
-        match course {
-            Course::Went(j) => {
-                load = s.load;
-                i = j;
-                turns -= 1;
-            }
-            Course::Asked(_) => {
-                return s;
-            }
-            Course::Failed(_) => {
-                return s;
-            }
-        }
-    }
-    Step {
-        course: Course::Went(i),
-        load: load,
+    let pending = l.pending;
+    match pending {
+        Open::Shut => Step {
+            course: Course::Went(0),
+            load: l,
+        },
+        Open::Table { held: _, missing } => feed::table_fed(l, d, 0, missing),
+        Open::Record {
+            tag,
+            written,
+            missing,
+        } => laying::record_fed(l, area, d, 0, tag, written, missing),
     }
 }
 
@@ -95,7 +72,7 @@ fn walked_on(l: Loading, area: &mut [u8], capacity: u8, p1: u8, d: &[u8], at: us
     requires { ⌜ (at ≤ length (now d)) × Walking at (now d) (stateOf l (now area)) ⌝ }
     ensures { λ r. ⌜ ended r (now (area .exit)) ≡ thence (walk (length (now (d .entry)) - at) capacity (length (now (d .entry))) p1 (drop at (now (d .entry))) (stateOf l (now (area .entry)))) (λ n. theEnd p1) ⌝ }
 {
-    let s = walked(l, area, capacity, p1, d, at);
+    let s = walk::walked(l, area, capacity, p1, d, at);
     let course = s.course;
     match course {
         Course::Went(_) => ended_by(s.load, p1),
@@ -109,7 +86,7 @@ pub fn commanded(l: Loading, area: &mut [u8], capacity: u8, p1: u8, d: &[u8]) ->
     requires { ⌜ Sure l (now area) ⌝ }
     ensures { λ r. ⌜ ended r (now (area .exit)) ≡ command capacity p1 (now (d .entry)) (stateOf l (now (area .entry))) ⌝ }
 {
-    let s = feed::fed_first(l, area, d);
+    let s = fed_first(l, area, d);
     let course = s.course;
     match course {
         Course::Went(at) => {

@@ -44,7 +44,7 @@ pub fn enter_all(
             let life = x.life;
             c.life = life;
         } else {
-            let x = turns::loaded(c, area, &mut answer, r);
+            let x = loading::loaded(c, area, &mut answer, r);
             number = x.number;
             word = x.word;
             c = x.card;

@@ -1,9 +1,6 @@
-use Prim.Native.Nat.{ℕ, suc, _+_, _*_, _-_, _≤_, _<_, _/_, _%_}
-use mathlib.Core.Path.{_≡_, refl, ap, sym, _∙_}
-use mathlib.Core.List.{List, [], _∷_, _++_}
+use mathlib.Core.Path.{refl, ap, sym, _∙_}
 use native.Mathlib.Omega.{arith}
-use native.Mathlib.Numerals.{add-one}
-use lib.ListN.{length, take, drop, set, getD, length-set, length-take, length-drop, length-append}
+use lib.ListN.{length, drop, length-drop}
 use denote.Ref.{now}
 use borrow.Author.Needs.{needs}
 use mathlib.Core.Path.{subst}
@@ -17,11 +14,6 @@ use Rattle.records.specs.Steps.{endedAs}
 use Rattle.steps.specs.declared.Course.{Course}
 use Rattle.load.proofs.commanded.Statement.{statement}
 use Rattle.load.proofs.commanded.Tie as tie
-use Rattle.load.proofs.commanded.Reads as reads
-use Rattle.load.proofs.commanded.Lts as lts
-use Rattle.feed.proofs.fed_first.Reads as fed-first-reads
-use Rattle.load.proofs.ended_by.Reads as ended-by-reads
-use Rattle.load.proofs.walked_on.Reads as walked-on-reads
 
 fed-first-requires : tie.Need-fed-first-requires
 fed-first-requires c κs = search needs

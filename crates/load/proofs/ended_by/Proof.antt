@@ -1,19 +1,8 @@
-use Prim.Native.Nat.{ℕ, suc, _+_, _*_, _-_, _≤_, _<_, _/_, _%_}
-use mathlib.Core.Path.{_≡_, refl, ap, sym, _∙_}
-use mathlib.Core.List.{List, [], _∷_, _++_}
-use native.Mathlib.Omega.{arith}
-use native.Mathlib.Numerals.{add-one}
-use lib.ListN.{length, take, drop, set, getD, length-set, length-take, length-drop, length-append}
-use denote.Ref.{now}
 use borrow.Author.Needs.{needs}
 use Rattle.model.specs.Command.{theEnd, ready}
-use borrow.Author.Tests.{eq-eqb, ne-eqb, lt-leb, le-leb}
+use borrow.Author.Tests.{lt-leb, le-leb}
 use Rattle.load.proofs.ended_by.Statement.{statement}
 use Rattle.load.proofs.ended_by.Tie as tie
-use Rattle.load.proofs.ended_by.Reads as reads
-use Rattle.load.proofs.ended_by.Lts as lts
-use Rattle.steps.proofs.failed_by.Reads as failed-by-reads
-use Rattle.rows.proofs.mandatory_missing.Reads as mandatory-missing-reads
 
 returns : tie.Need-returns
 unfolding theEnd

@@ -1,20 +1,10 @@
-use Prim.Native.Nat.{ℕ, suc, _+_, _*_, _-_, _≤_, _<_, _/_, _%_}
-use mathlib.Core.Path.{_≡_, refl, ap, sym, _∙_}
-use mathlib.Core.List.{List, [], _∷_, _++_}
-use native.Mathlib.Omega.{arith}
-use native.Mathlib.Numerals.{add-one}
-use lib.ListN.{length, take, drop, set, getD, length-set, length-take, length-drop, length-append}
-use denote.Ref.{now}
+use mathlib.Core.Path.{ap, sym, _∙_}
 use borrow.Author.Needs.{needs}
 use Rattle.records.specs.Steps.{endedAs}
 use Rattle.steps.specs.Steps.{stateOf}
 use Rattle.steps.specs.declared.Course.{Course}
 use Rattle.load.proofs.walked_on.Statement.{statement}
 use Rattle.load.proofs.walked_on.Tie as tie
-use Rattle.load.proofs.walked_on.Reads as reads
-use Rattle.load.proofs.walked_on.Lts as lts
-use Rattle.load.proofs.ended_by.Reads as ended-by-reads
-use Rattle.load.proofs.walked.Reads as walked-reads
 
 walked-requires : tie.Need-walked-requires
 walked-requires c κs = search needs

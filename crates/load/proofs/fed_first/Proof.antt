@@ -4,8 +4,8 @@ use Rattle.model.specs.Rules.{fed}
 use Rattle.soundness.proofs.Opened.{sound-record}
 use Rattle.steps.specs.Steps.{activeLife}
 use Rattle.steps.proofs.Values.{sure-table, sure-count}
-use Rattle.feed.proofs.fed_first.Statement.{statement}
-use Rattle.feed.proofs.fed_first.Tie as tie
+use Rattle.load.proofs.fed_first.Statement.{statement}
+use Rattle.load.proofs.fed_first.Tie as tie
 
 enum-told : tie.Need-enum-told
 enum-told c = search needs

@@ -1,25 +1,18 @@
-use Prim.Native.Nat.{ℕ, suc, _+_, _*_, _-_, _≤_, _<_, _/_, _%_}
+use Prim.Native.Nat.{_-_}
 use mathlib.Core.Path.{_≡_, refl, ap, sym, _∙_}
-use mathlib.Core.List.{List, [], _∷_, _++_}
 use native.Mathlib.Omega.{arith}
-use native.Mathlib.Numerals.{add-one}
-use lib.ListN.{length, take, drop, set, getD, length-set, length-take, length-drop, length-append}
+use lib.ListN.{length, drop, length-drop}
 use denote.Ref.{now}
 use borrow.Author.Needs.{needs}
 use Rattle.steps.specs.Steps.{coursed}
 use Rattle.steps.specs.declared.Course.{Course}
-use Rattle.model.specs.Rules.{grouping, went, asked, failed}
 use Rattle.model.specs.Command.{walk}
 use Rattle.steps.specs.Steps.{stateOf}
 use Rattle.records.specs.Steps.{Walking, endedAs}
 use Rattle.records.proofs.Walks.{walk-ends, walk-out, walk-turn, walk-goes}
 use Rattle.model.specs.Loads.{withLast}
-use Rattle.load.proofs.walked.Statement.{statement}
-use Rattle.load.proofs.walked.Tie as tie
-use Rattle.load.proofs.walked.Reads as reads
-use Rattle.load.proofs.walked.Lts as lts
-use Rattle.rules.proofs.grouping_at.Reads as grouping-at-reads
-use Rattle.records.proofs.run_from.Reads as run-from-reads
+use Rattle.walk.proofs.walked.Statement.{statement}
+use Rattle.walk.proofs.walked.Tie as tie
 
 abbrev Inv-loop : tie.InvT-loop
 Inv-loop area₀ capacity p1 d at load₀ i₀ turns₀ area load i turns =

@@ -3,8 +3,8 @@ use borrow.Author.Needs.{needs}
 use borrow.Author.Tests.{eq-eqb, ne-eqb}
 use Rattle.model.specs.Events.{stuck, isName}
 use Rattle.fci.specs.Answers.{said, gave}
-use Rattle.turns.proofs.stuck_by.Statement.{statement}
-use Rattle.turns.proofs.stuck_by.Tie as tie
+use Rattle.loading.proofs.stuck_by.Statement.{statement}
+use Rattle.loading.proofs.stuck_by.Tie as tie
 
 is-named-requires : tie.Need-is-named-requires
 is-named-requires c κs = search needs

@@ -5,8 +5,8 @@ use denote.Ref.{now}
 use borrow.Author.Needs.{needs}
 use Rattle.lists.specs.Bytes.{byteAt}
 use Rattle.brief.proofs.Replies.{played, refused, fault-turn, event-turn, loads-kind}
-use Rattle.turns.proofs.loaded.Statement.{statement}
-use Rattle.turns.proofs.loaded.Tie as tie
+use Rattle.loading.proofs.loaded.Statement.{statement}
+use Rattle.loading.proofs.loaded.Tie as tie
 
 fault-in-requires : tie.Need-fault-in-requires
 fault-in-requires c κs = search needs

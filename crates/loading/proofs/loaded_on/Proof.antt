@@ -7,8 +7,8 @@ use Rattle.brief.proofs.Named.{good-name}
 use Rattle.model.specs.Events.{storeData, event}
 use Rattle.kinds.specs.Brief.{eventOf}
 use Rattle.brief.proofs.Outside.{event-stuck, event-locks, event-loads, event-stores}
-use Rattle.turns.proofs.loaded_on.Statement.{statement}
-use Rattle.turns.proofs.loaded_on.Tie as tie
+use Rattle.loading.proofs.loaded_on.Statement.{statement}
+use Rattle.loading.proofs.loaded_on.Tie as tie
 
 stuck-by-requires : tie.Need-stuck-by-requires
 stuck-by-requires c κs = let p = c .before .before .before .before .before .before .before .before .pre in (p .1, good-name _ _ (p .0))
