@@ -1,7 +1,7 @@
 -- What a call of the writer leaves, by the definition's writing.
 use Prim.Native.Nat.{ℕ, _*_, _-_}
 use mathlib.Core.Path.{_≡_}
-use mathlib.Core.Bool.{Bool, cond, not}
+use mathlib.Core.Bool.{Bool, cond}
 use mathlib.Core.List.{List, _++_}
 use lib.Dec.{ltb}
 use lib.ListN.{length, take, drop}
@@ -9,7 +9,7 @@ use Rattle.lists.specs.Over.{overwrite}
 use Rattle.model.specs.declared.Written.{Written}
 use Rattle.model.specs.Stored.{recordSize}
 use Rattle.model.specs.Command.{walk}
-use Rattle.model.specs.Order.{orderLimit, challengedState, finished, complete, recordsFor, Writing, noWriting}
+use Rattle.model.specs.Order.{challengedState, finished, recordsFor, Writing, noWriting}
 use Rattle.cutting.specs.Job.{installRecord, selectRecord}
 use Rattle.cuts.specs.Cuts.{joined}
 
@@ -27,13 +27,6 @@ passesBehind capacity d = finished (walk (length d - 3) capacity (length d) 0x00
 abbrev pub cutFor : List ℕ → ℕ → Writing
 cutFor order room =
     cond (ltb room (length (recordsFor order) * recordSize)) (noWriting 11) (record { number = 0; records = recordsFor order })
-
--- numbers 9, 10 and 11, or the records, for a chip of this capacity
-unfoldable pub writeFor : ℕ → List ℕ → ℕ → Writing
-writeFor capacity order room =
-    cond (ltb orderLimit (length order)) (noWriting 9)
-    (cond (not (complete capacity order)) (noWriting 10)
-    (cutFor order room))
 
 -- the session that is made of it: INSTALL '0C', SELECT, and so many records from the front of the room
 unfoldable pub sessionIn : ℕ → List ℕ → List ℕ

@@ -7,10 +7,10 @@ use native.Mathlib.Omega.{arith}
 use lib.ListN.{length}
 use borrow.Author.Tests.{lt-ltb, le-ltb}
 use Rattle.model.specs.declared.Made.{Made}
-use Rattle.model.specs.Stored.{chipForm, freshCard, recordSize}
+use Rattle.model.specs.Stored.{chipForm, chipOf, freshCard, recordSize}
 use Rattle.model.specs.Session.{freshOf}
 use Rattle.model.specs.Order.{orderLimit, complete, recordsFor, noWriting, writeOf}
-use Rattle.complete.specs.Writes.{cutFor, writeFor}
+use Rattle.complete.specs.Writes.{cutFor}
 
 module _ (order : List ℕ) (room : ℕ) where
   pub no-room : room < length (recordsFor order) * recordSize → cutFor order room ≡ noWriting 11
@@ -19,34 +19,40 @@ module _ (order : List ℕ) (room : ℕ) where
   pub has-room : length (recordsFor order) * recordSize ≤ room → cutFor order room ≡ record { number = 0; records = recordsFor order }
   has-room h = rw (le-ltb room (length (recordsFor order) * recordSize) h)
 
-  pub too-long : (capacity : ℕ) → orderLimit < length order → writeFor capacity order room ≡ noWriting 9
-  unfolding writeFor
-  too-long capacity h = rw (lt-ltb orderLimit (length order) h)
-
-  pub not-complete : (capacity : ℕ) → length order ≤ orderLimit → complete capacity order ≡ false → writeFor capacity order room ≡ noWriting 10
-  unfolding writeFor
-  not-complete capacity h e = rw (le-ltb orderLimit (length order) h, e)
-
-  pub is-cut : (capacity : ℕ) → length order ≤ orderLimit → complete capacity order ≡ true → writeFor capacity order room ≡ cutFor order room
-  unfolding writeFor
-  is-cut capacity h e = rw (le-ltb orderLimit (length order) h, e)
-
-  refused-so : (b : Bool) (chip : List ℕ) → chipForm chip ≡ b → (freshOf chip .number ≡ 0 → ⊥) → writeOf chip order room ≡ noWriting (freshOf chip .number)
+-- a chip record, and what the fresh card's call made of it
+module _ (chip order : List ℕ) (room : ℕ) (m : Made) (made : m ≡ freshOf chip) where
+  refused-so : (b : Bool) → chipForm chip ≡ b → (freshOf chip .number ≡ 0 → ⊥) → writeOf chip order room ≡ noWriting (freshOf chip .number)
   unfolding writeOf freshOf
-  refused-so true chip e h = absurd (h (rw e refl))
-  refused-so false chip e h = rw e refl
+  refused-so true e h = absurd (h (rw e refl))
+  refused-so false e h = rw e refl
 
-  formed-so : (b : Bool) (chip : List ℕ) → chipForm chip ≡ b → freshOf chip .number ≡ 0
-      → writeOf chip order room ≡ writeFor (freshOf chip .card .chip .capacity) order room
-  unfolding writeOf writeFor freshOf freshCard
-  formed-so true chip e h = rw e refl
-  formed-so false chip e h =
+  pub refused : (m .number ≡ 0 → ⊥) → writeOf chip order room ≡ noWriting (m .number)
+  refused h = rw made (refused-so (chipForm chip) refl (rw (sym made) h))
+
+  form-so : (b : Bool) → chipForm chip ≡ b → freshOf chip .number ≡ 0 → chipForm chip ≡ true
+  unfolding freshOf
+  form-so true e z = e
+  form-so false e z =
       let s : freshOf chip .number ≡ 7 = rw e refl in
       absurd (omega arith)
 
-  -- a chip record that makes no card is refused by the same number, one that does tells the capacity
-  pub refused : (chip : List ℕ) (m : Made) → m ≡ freshOf chip → (m .number ≡ 0 → ⊥) → writeOf chip order room ≡ noWriting (m .number)
-  refused chip m e h = rw e (refused-so (chipForm chip) chip refl (rw (sym e) h))
+  form : m .number ≡ 0 → chipForm chip ≡ true
+  form z = form-so (chipForm chip) refl (rw (sym made) z)
 
-  pub formed : (chip : List ℕ) (m : Made) → m ≡ freshOf chip → m .number ≡ 0 → writeOf chip order room ≡ writeFor (m .card .chip .capacity) order room
-  formed chip m e h = rw e (formed-so (chipForm chip) chip refl (rw (sym e) h))
+  capacity : m .number ≡ 0 → m .card .chip .capacity ≡ chipOf chip .capacity
+  unfolding freshOf freshCard
+  capacity z = rw (made, form z) refl
+
+  pub too-long : m .number ≡ 0 → orderLimit < length order → writeOf chip order room ≡ noWriting 9
+  unfolding writeOf
+  too-long z h = rw (form z, lt-ltb orderLimit (length order) h)
+
+  pub not-complete : m .number ≡ 0 → length order ≤ orderLimit → complete (m .card .chip .capacity) order ≡ false
+      → writeOf chip order room ≡ noWriting 10
+  unfolding writeOf
+  not-complete z h e = rw (form z, le-ltb orderLimit (length order) h, ← capacity z, e)
+
+  pub is-cut : m .number ≡ 0 → length order ≤ orderLimit → complete (m .card .chip .capacity) order ≡ true
+      → writeOf chip order room ≡ cutFor order room
+  unfolding writeOf
+  is-cut z h e = rw (form z, le-ltb orderLimit (length order) h, ← capacity z, e)

@@ -3,7 +3,7 @@ use native.Mathlib.Omega.{arith}
 use lib.ListN.{length}
 use denote.Ref.{now}
 use borrow.Author.Needs.{needs}
-use Rattle.writer.proofs.Numbers.{refused, formed, too-long, not-complete, is-cut}
+use Rattle.writer.proofs.Numbers.{refused, too-long, not-complete, is-cut}
 use Rattle.complete.proofs.Complete.{complete-cuttable}
 use Rattle.cutting.proofs.Commands.{records-few}
 use Rattle.writer.proofs.write.Statement.{statement}
@@ -17,20 +17,18 @@ refused-by-requires c κs = search needs
 
 returns : tie.Need-returns
 returns c =
-    let s = c .before .before .before .before .before .before .before .args in
-    rw (refused (now (s .order)) (length (now (s .room))) (now (s .chip)) _ (c .before .before .before .fresh .ensures) (c .before .if1 .taken))
-    (c .refused-by .ensures (now (s .room)))
+    let one = c .before in
+    let s = one .before .before .before .before .before .before .args in
+    rw (refused (now (s .chip)) (now (s .order)) (length (now (s .room))) _ (one .before .before .fresh .ensures) (one .if1 .taken)) (c .refused-by .ensures (now (s .room)))
 
 refused-by-requires-2 : tie.Need-refused-by-requires-2
 refused-by-requires-2 c κs = search needs
 
 returns-2 : tie.Need-returns-2
 returns-2 c =
-    let s = c .before .before .before .before .before .before .before .before .args in
-    rw (
-      formed (now (s .order)) (length (now (s .room))) (now (s .chip)) _ (c .before .before .before .before .fresh .ensures) (c .before .before .if1 .left),
-      too-long (now (s .order)) (length (now (s .room))) _ (c .before .if2 .taken),
-    )
+    let one = c .before .before in
+    let s = one .before .before .before .before .before .before .args in
+    rw (too-long (now (s .chip)) (now (s .order)) (length (now (s .room))) _ (one .before .before .fresh .ensures) (one .if1 .left) (c .before .if2 .taken))
     (c .refused-by2 .ensures (now (s .room)))
 
 is-complete-requires : tie.Need-is-complete-requires
@@ -47,12 +45,11 @@ same-length c = search needs
 
 returns-3 : tie.Need-returns-3
 returns-3 c =
-    let s = c .before .before .before .before .before .before .before .before .before .before .before .before .before .args in
-    let e = sym (c .before .before .before .before .before .is-complete .ensures) ∙ c .before .before .before .before .if3 .taken in
-    rw (
-      formed (now (s .order)) (length (now (s .room))) (now (s .chip)) _ (c .before .before .before .before .before .before .before .before .before .fresh .ensures) (c .before .before .before .before .before .before .before .if1 .left),
-      is-cut (now (s .order)) (length (now (s .room))) _ (omega arith) e,
-    )
+    let three = c .before .before .before .before in
+    let one = three .before .before .before in
+    let s = one .before .before .before .before .before .before .args in
+    let e = sym (three .before .is-complete .ensures) ∙ three .if3 .taken in
+    rw (is-cut (now (s .chip)) (now (s .order)) (length (now (s .room))) _ (one .before .before .fresh .ensures) (one .if1 .left) (omega arith) e)
     (c .before .before .cut-into .ensures)
 
 refused-by-requires-3 : tie.Need-refused-by-requires-3
@@ -60,12 +57,11 @@ refused-by-requires-3 c κs = search needs
 
 returns-4 : tie.Need-returns-4
 returns-4 c =
-    let s = c .before .before .before .before .before .before .before .before .before .before .args in
-    let e = sym (c .before .before .is-complete .ensures) ∙ c .before .if3 .left in
-    rw (
-      formed (now (s .order)) (length (now (s .room))) (now (s .chip)) _ (c .before .before .before .before .before .before .fresh .ensures) (c .before .before .before .before .if1 .left),
-      not-complete (now (s .order)) (length (now (s .room))) _ (omega arith) e,
-    )
+    let three = c .before in
+    let one = three .before .before .before in
+    let s = one .before .before .before .before .before .before .args in
+    let e = sym (three .before .is-complete .ensures) ∙ three .if3 .left in
+    rw (not-complete (now (s .chip)) (now (s .order)) (length (now (s .room))) _ (one .before .before .fresh .ensures) (one .if1 .left) (omega arith) e)
     (c .refused-by3 .ensures (now (s .room)))
 
 pub write-spec : {M : Type 1} → statement M
