@@ -20,6 +20,9 @@ module _ (kind p1 : ℕ) (d : List ℕ) (c : Card) (a : List ℕ) where
   pub event-select : isBrief kind c ≡ true → kind ≡ 3 → event (eventOf kind p1 d) c a ≡ select d c a
   event-select e f = event-outside e ∙ ap (λ (k : ℕ). otherwise (eventOf k p1 d) c a) f ∙ (unfold otherwise in refl)
 
+  pub event-still : isBrief kind c ≡ true → kind ≡ 2 → event (eventOf kind p1 d) c a ≡ storeData p1 d c a
+  event-still e f = event-outside e ∙ ap (λ (k : ℕ). otherwise (eventOf k p1 d) c a) f ∙ (unfold otherwise in refl)
+
   pub event-stores : isBrief kind c ≡ false → eqb (c .loading .internal) 0x5A ≡ false → event (eventOf kind p1 d) c a ≡ storeData p1 d c a
   event-stores e f =
       outside f ∙ ap (λ (k : ℕ). otherwise (eventOf k p1 d) c a) (eqb-true kind 2 (loads-data kind c e f)) ∙ (unfold otherwise in refl)

@@ -1,4 +1,4 @@
-// A record that is an event outside '5A' and changes the life at most: any kind but STORE DATA on a selected card.
+// A record that is an event outside '5A' and changes the life at most: any kind but STORE DATA that may load.
 use life::Lived;
 use model::Card;
 use select::Replied;
@@ -17,20 +17,13 @@ ghost use Rattle.brief.specs.Plays.{Plays, livedAs};
 
 const DATA_PLACE: usize = 4;
 
-// The kinds that give no answer bytes. STORE DATA gets here where the card is not selected.
+// The kinds that give no answer bytes.
 fn unanswered(c: Card, area: &mut [u8], kind: u8, p1: u8, d: &[u8]) -> Lived
-    requires { ⌜ Good areaSize c (now area) × (isBrief kind c ≡ true) × (eqb kind 3 ≡ false) ⌝ }
+    requires { ⌜ Good areaSize c (now area) × (eqb kind 2 ≡ false) × (eqb kind 3 ≡ false) ⌝ }
     ensures { λ r. ⌜ otherwise (eventOf kind p1 (now (d .entry))) c (now (area .entry)) ≡ says (r .word) (withLife (r .life) c) (now (area .exit)) ⌝ }
 {
     if kind == 1 {
         return install::installed_by(c, area, p1, d);
-    }
-    if kind == 2 {
-        let life = c.life;
-        return Lived {
-            word: 0x6985, // not selected
-            life: life,
-        };
     }
     if kind == 4 {
         return life::answered_foreign(c);
@@ -44,13 +37,16 @@ fn unanswered(c: Card, area: &mut [u8], kind: u8, p1: u8, d: &[u8]) -> Lived
     life::deselected(c)
 }
 
-// Such an event: SELECT, or one without answer bytes.
+// Such an event: SELECT, STORE DATA that moves nothing, or one without answer bytes.
 fn lived_on(c: Card, area: &mut [u8], answer: &mut [u8], kind: u8, p1: u8, d: &[u8]) -> Replied
     requires { ⌜ Good areaSize c (now area) × (64 ≤ length (now answer)) × (isBrief kind c ≡ true) ⌝ }
     ensures { λ r. ⌜ Answers (event (eventOf kind p1 (now (d .entry))) c (now (area .entry))) (r .word) (r .answered) (withLife (r .life) c) (now (area .exit)) (now (answer .entry)) (now (answer .exit)) ⌝ }
 {
     if kind == 3 {
         return select::selected_by(c, answer, d);
+    }
+    if kind == 2 {
+        return personalized::stored(c, answer, p1, d);
     }
     let x = unanswered(c, area, kind, p1, d);
     let life = x.life;

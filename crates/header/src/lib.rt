@@ -1,4 +1,4 @@
-// One header at a place of a slice.
+// One header at a place of a slice, and which tags are queries.
 use model::Head;
 use model::Header;
 ghost use mathlib.Core.Path.{_≡_};
@@ -6,6 +6,7 @@ ghost use Prim.Native.Nat.{_+_, _≤_};
 ghost use lib.ListN.{length, drop};
 ghost use Rattle.lists.specs.Bytes.{wordAt};
 ghost use Rattle.model.specs.Header.{headerOf};
+ghost use Rattle.model.specs.Rules.{isQuery};
 
 const SHORT_SIZE: usize = 3;
 
@@ -50,4 +51,17 @@ pub fn header_at(s: &[u8], at: usize) -> Header
         size: LONG_SIZE,
         len: long as usize,
     })
+}
+
+// The tags that ask, and load nothing.
+pub fn is_query(tag: u16) -> bool
+    ensures { λ r. ⌜ r ≡ isQuery tag ⌝ }
+{
+    if tag == 0x9484 {
+        return true;
+    }
+    if tag == 0x8185 {
+        return true;
+    }
+    tag == 0x84F2
 }

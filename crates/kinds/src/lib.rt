@@ -54,7 +54,7 @@ fn is_brief_kind(c: Card, kind: u8) -> bool
     }
     if kind == 2 {
         if c.life.selected {
-            return false;
+            return c.loading.internal == 0xA5;
         }
     }
     true

@@ -4,25 +4,12 @@ use model::Loading;
 use steps::Course;
 use steps::Step;
 ghost use mathlib.Core.Path.{_≡_};
-ghost use mathlib.Core.Bool.{true};
 ghost use mathlib.Core.List.{List};
 ghost use Prim.Native.Nat.{ℕ, _-_, _<_};
 ghost use lib.ListN.{length};
-ghost use Rattle.model.specs.Rules.{isQuery, query, challenged};
+ghost use Rattle.model.specs.Rules.{query, challenged};
 ghost use Rattle.steps.specs.Steps.{stateOf};
 ghost use Rattle.records.specs.Steps.{ended};
-
-pub fn is_query(tag: u16) -> bool
-    ensures { λ r. ⌜ r ≡ isQuery tag ⌝ }
-{
-    if tag == 0x9484 {
-        return true;
-    }
-    if tag == 0x8185 {
-        return true;
-    }
-    tag == 0x84F2
-}
 
 // '9484': only in 'CC' and once.
 fn challenge_given(l: Loading) -> Step

@@ -88,7 +88,7 @@ fn from_b(l: Loading, area: &mut [u8], capacity: u8, p1: u8, h: Head, d: &[u8], 
     ensures { λ r. ⌜ stepped r (now (d .entry)) (now (area .exit)) ≡ fromB capacity (length (now (d .entry))) p1 h (drop at (now (d .entry))) (stateOf l (now (area .entry))) ⌝ }
 {
     let tag = h.tag;
-    if queries::is_query(tag) {
+    if header::is_query(tag) {
         return queries::queried(l, p1, h, d.len(), at);
     }
     from_c(l, area, capacity, h, d, at)

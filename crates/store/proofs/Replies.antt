@@ -42,6 +42,10 @@ module _ (p1 : ℕ) (d : List ℕ) (c : Card) (a : List ℕ) where
   chosen b =
       cond b (cond (eqb (length d) 0) (errs 0x6700 c a) (commanded c (command (c .chip .capacity) p1 d (stateOf (c .loading) a)))) (says 0x6985 c a)
 
+  pub store-unselected : c .life .selected ≡ false → storeData p1 d c a ≡ says 0x6985 c a
+  unfolding storeData chosen
+  store-unselected e = ap chosen e
+
   pub store-empty : c .life .selected ≡ true → length d ≡ 0 → storeData p1 d c a ≡ errs 0x6700 c a
   unfolding storeData chosen
   store-empty e f = ap chosen e ∙ rw (eq-eqb (length d) 0 f)

@@ -2,7 +2,6 @@ use borrow.Author.Needs.{needs}
 use borrow.Author.Tests.{eq-eqb, ne-eqb}
 use Rattle.brief.proofs.Named.{good-name}
 use Rattle.model.specs.Events.{otherwise}
-use Rattle.kinds.specs.Brief.{brief-idle, store-unselected}
 use Rattle.brief.proofs.unanswered.Statement.{statement}
 use Rattle.brief.proofs.unanswered.Tie as tie
 
@@ -17,16 +16,19 @@ unfolding otherwise
 returns c =
     rw (eq-eqb _ _ (c .before .before .before .before .if1 .taken)) (c .before .before .installed-by .ensures)
 
+answered-foreign-requires : tie.Need-answered-foreign-requires
+answered-foreign-requires c κs = search needs
+
 returns-2 : tie.Need-returns-2
 unfolding otherwise
 returns-2 c =
-    let if1 = c .before .before .if1 in
-    let s = c .before .before .before .before .before in
-    let two = eq-eqb _ _ (c .before .if2 .taken) in
-    rw (ne-eqb _ _ (if1 .left), two) (store-unselected _ _ (s .args .c) _ (brief-idle (s .args .kind) (s .args .c) (s .pre .1) two))
+    let two = c .before in
+    let one = two .before in
+    let pre = one .before .before .before .pre in
+    rw (ne-eqb _ _ (one .if1 .left), pre .1, pre .2, eq-eqb _ _ (two .if2 .taken)) (c .answered-foreign .ensures _)
 
-answered-foreign-requires : tie.Need-answered-foreign-requires
-answered-foreign-requires c κs = search needs
+locked-by-requires : tie.Need-locked-by-requires
+locked-by-requires c κs = search needs
 
 returns-3 : tie.Need-returns-3
 unfolding otherwise
@@ -34,10 +36,11 @@ returns-3 c =
     let three = c .before in
     let two = three .before in
     let one = two .before in
-    rw (ne-eqb _ _ (one .if1 .left), ne-eqb _ _ (two .if2 .left), one .before .before .before .pre .2, eq-eqb _ _ (three .if3 .taken)) (c .answered-foreign .ensures _)
+    let pre = one .before .before .before .pre in
+    rw (ne-eqb _ _ (one .if1 .left), pre .1, pre .2, ne-eqb _ _ (two .if2 .left), eq-eqb _ _ (three .if3 .taken)) (c .locked-by .ensures _)
 
-locked-by-requires : tie.Need-locked-by-requires
-locked-by-requires c κs = search needs
+unlocked-by-requires : tie.Need-unlocked-by-requires
+unlocked-by-requires c κs = search needs
 
 returns-4 : tie.Need-returns-4
 unfolding otherwise
@@ -46,34 +49,22 @@ returns-4 c =
     let three = four .before in
     let two = three .before in
     let one = two .before in
-    rw (ne-eqb _ _ (one .if1 .left), ne-eqb _ _ (two .if2 .left), one .before .before .before .pre .2, ne-eqb _ _ (three .if3 .left), eq-eqb _ _ (four .if4 .taken)) (c .locked-by .ensures _)
-
-unlocked-by-requires : tie.Need-unlocked-by-requires
-unlocked-by-requires c κs = search needs
-
-returns-5 : tie.Need-returns-5
-unfolding otherwise
-returns-5 c =
-    let five = c .before in
-    let four = five .before in
-    let three = four .before in
-    let two = three .before in
-    let one = two .before in
-    rw (ne-eqb _ _ (one .if1 .left), ne-eqb _ _ (two .if2 .left), one .before .before .before .pre .2, ne-eqb _ _ (three .if3 .left), ne-eqb _ _ (four .if4 .left), eq-eqb _ _ (five .if5 .taken))
+    let pre = one .before .before .before .pre in
+    rw (ne-eqb _ _ (one .if1 .left), pre .1, pre .2, ne-eqb _ _ (two .if2 .left), ne-eqb _ _ (three .if3 .left), eq-eqb _ _ (four .if4 .taken))
     (c .unlocked-by .ensures _)
 
 deselected-requires : tie.Need-deselected-requires
 deselected-requires c κs = search needs
 
-returns-6 : tie.Need-returns-6
+returns-5 : tie.Need-returns-5
 unfolding otherwise
-returns-6 c =
-    let five = c .before in
-    let four = five .before in
+returns-5 c =
+    let four = c .before in
     let three = four .before in
     let two = three .before in
     let one = two .before in
-    rw (ne-eqb _ _ (one .if1 .left), ne-eqb _ _ (two .if2 .left), one .before .before .before .pre .2, ne-eqb _ _ (three .if3 .left), ne-eqb _ _ (four .if4 .left), ne-eqb _ _ (five .if5 .left))
+    let pre = one .before .before .before .pre in
+    rw (ne-eqb _ _ (one .if1 .left), pre .1, pre .2, ne-eqb _ _ (two .if2 .left), ne-eqb _ _ (three .if3 .left), ne-eqb _ _ (four .if4 .left))
     (c .deselected .ensures _)
 
 pub unanswered-spec : {M : Type 1} → statement M
@@ -83,12 +74,11 @@ unanswered-spec =
     installed-by-requires
     same-length
     returns
-    returns-2
     answered-foreign-requires
-    returns-3
+    returns-2
     locked-by-requires
-    returns-4
+    returns-3
     unlocked-by-requires
-    returns-5
+    returns-4
     deselected-requires
-    returns-6)
+    returns-5)

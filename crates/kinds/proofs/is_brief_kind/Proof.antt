@@ -9,7 +9,9 @@ returns c = rw (eq-eqb _ _ (c .if1 .taken))
 
 returns-2 : tie.Need-returns-2
 unfolding brief
-returns-2 c = rw (ne-eqb _ _ (c .before .before .if1 .left), eq-eqb _ _ (c .before .if2 .taken), c .if3 .taken)
+returns-2 c =
+    let two = c .before .before in
+    rw (ne-eqb _ _ (two .before .if1 .left), eq-eqb _ _ (two .if2 .taken), c .before .if3 .taken)
 
 returns-3 : tie.Need-returns-3
 unfolding brief

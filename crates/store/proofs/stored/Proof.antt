@@ -1,10 +1,8 @@
 use mathlib.Core.Path.{refl}
 use denote.Ref.{now}
 use borrow.Author.Needs.{needs}
-use Rattle.store.proofs.Replies.{store-empty, store-command}
-use Rattle.kinds.specs.Brief.{store-unselected}
 use Rattle.fci.specs.Answers.{said}
-use Rattle.store.proofs.Replies.{errs-told, course-told}
+use Rattle.store.proofs.Replies.{errs-told, course-told, store-unselected, store-empty, store-command}
 use Rattle.store.proofs.Sure.{good-sure}
 use Rattle.store.proofs.stored.Statement.{statement}
 use Rattle.store.proofs.stored.Tie as tie

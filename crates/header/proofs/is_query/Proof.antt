@@ -1,6 +1,6 @@
 use Rattle.lists.specs.Choice.{cases}
-use Rattle.queries.proofs.is_query.Statement.{statement}
-use Rattle.queries.proofs.is_query.Tie as tie
+use Rattle.header.proofs.is_query.Statement.{statement}
+use Rattle.header.proofs.is_query.Tie as tie
 
 returns : tie.Need-returns
 returns c = search cases
