@@ -1,7 +1,7 @@
 -- In 'A5', with no value open, a command ends at its first grouping, and nothing changes.
 use Prim.Native.Nat.{ℕ}
-use mathlib.Core.Path.{_≡_, refl, ap, sym, _∙_}
-use mathlib.Core.Bool.{Bool, true, false, cond, not, _&&_, false≢true}
+use mathlib.Core.Path.{_≡_, refl, ap, _∙_}
+use mathlib.Core.Bool.{Bool, true, false, cond, not, _&&_}
 use mathlib.Core.List.{List, [], _∷_}
 use lib.Dec.{eqb}
 use lib.ListN.{length}
@@ -82,17 +82,9 @@ chosen-second b e x y z p q = rw (p, q) refl
 chosen-first : {A : Type 0} (b e : Bool) (x y z : A) → b ≡ true → e ≡ true → cond b (cond e x y) z ≡ x
 chosen-first b e x y z p q = rw (p, q) refl
 
-pub unless-not : (b : Bool) → not b ≡ false → b ≡ true
-unless-not true e = refl
-unless-not false e = sym e
-
-unless-so : {A : Type 0} (b : Bool) (x y : A) → not b ≡ true → cond b x y ≡ y
-unless-so true x y e = absurd (false≢true e)
-unless-so false x y e = refl
-
-pub stored-unselected : (p1 : ℕ) (d : List ℕ) (c : Card) (a : List ℕ) → not (c .life .selected) ≡ true → storeData p1 d c a ≡ says 0x6985 c a
+pub stored-unselected : (p1 : ℕ) (d : List ℕ) (c : Card) (a : List ℕ) → c .life .selected ≡ false → storeData p1 d c a ≡ says 0x6985 c a
 unfolding storeData
-stored-unselected p1 d c a e = unless-so (c .life .selected) _ _ e
+stored-unselected p1 d c a e = rw e
 
 -- STORE DATA on such a card
 module _ (p1 : ℕ) (d : List ℕ) (c : Card) (a : List ℕ) (selected : c .life .selected ≡ true) (still : (c .loading .internal ≡ 0xA5) × (c .loading .pending ≡ Shut)) where

@@ -5,6 +5,7 @@ use model::Head;
 use model::Header;
 use select::Replied;
 ghost use mathlib.Core.Path.{_≡_};
+ghost use mathlib.Core.Bool.{true};
 ghost use mathlib.Core.List.{List};
 ghost use Prim.Native.Nat.{ℕ, _≤_};
 ghost use lib.ListN.{length};
@@ -41,7 +42,46 @@ fn head_word(p1: u8, n: usize, h: Head) -> u16
     if header::is_query(h.tag) {
         return asked_word(p1, n, h);
     }
-    0x6985
+    0x6985 // another grouping
+}
+
+// A word, and how many answer bytes.
+struct Told {
+    pub word: u16,
+    pub answered: usize,
+}
+
+// On a selected card: the life is not handed through here, so that its copy stays out of the way of the answer's bytes.
+fn told_selected(c: Card, answer: &mut [u8], p1: u8, d: &[u8]) -> Told
+    requires { ⌜ (64 ≤ length (now answer)) × (c .life .selected ≡ true) × Still c ⌝ }
+    ensures { λ r. ⌜ ((a : List ℕ) → Answers (storeData p1 (now (d .entry)) c a) (r .word) (r .answered) c a (now (answer .entry)) (now (answer .exit))) ⌝ }
+{
+    if d.len() == 0 {
+        return Told {
+            word: 0x6700,
+            answered: 0,
+        };
+    }
+    let h = header::header_at(d, 0);
+    match h {
+        Header::Torn => Told {
+            word: 0x6A80,
+            answered: 0,
+        },
+        Header::Whole(head) => {
+            let word = head_word(p1, d.len(), head);
+            if word != 0x9000 {
+                return Told {
+                    word: word,
+                    answered: 0,
+                };
+            }
+            Told {
+                word: 0x9000,
+                answered: answers::lay_answer(answer, c, head.tag),
+            }
+        }
+    }
 }
 
 pub fn stored(c: Card, answer: &mut [u8], p1: u8, d: &[u8]) -> Replied
@@ -49,41 +89,17 @@ pub fn stored(c: Card, answer: &mut [u8], p1: u8, d: &[u8]) -> Replied
     ensures { λ r. ⌜ ((a : List ℕ) → Answers (storeData p1 (now (d .entry)) c a) (r .word) (r .answered) (withLife (r .life) c) a (now (answer .entry)) (now (answer .exit))) ⌝ }
 {
     let life = c.life;
-    if !life.selected {
+    if life.selected {
+        let x = told_selected(c, answer, p1, d);
         return Replied {
-            word: 0x6985, // not selected
-            answered: 0,
+            word: x.word,
+            answered: x.answered,
             life: life,
         };
     }
-    if d.len() == 0 {
-        return Replied {
-            word: 0x6700,
-            answered: 0,
-            life: life,
-        };
-    }
-    let h = header::header_at(d, 0);
-    match h {
-        Header::Torn => Replied {
-            word: 0x6A80, // header not whole
-            answered: 0,
-            life: life,
-        },
-        Header::Whole(head) => {
-            let word = head_word(p1, d.len(), head);
-            if word != 0x9000 {
-                return Replied {
-                    word: word,
-                    answered: 0,
-                    life: life,
-                };
-            }
-            Replied {
-                word: 0x9000,
-                answered: answers::lay_answer(answer, c, head.tag),
-                life: life,
-            }
-        }
+    Replied {
+        word: 0x6985, // not selected
+        answered: 0,
+        life: life,
     }
 }
