@@ -21,7 +21,7 @@ const LINE_MORE: usize = 7;
 // A value in hexadecimal, or a dash. The place behind it.
 fn put_value(out: &mut [u8], at: usize, value: &[u8]) -> usize
     requires { ⌜ at + 2 * length (now value) + 1 ≤ length (now out) ⌝ }
-    ensures { λ r. ⌜ (r ≤ at + 2 * length (now (value .entry)) + 1) × (length (now (out .exit)) ≡ length (now (out .entry))) ⌝ }
+    ensures { λ r. ⌜ r ≤ at + 2 * length (now (value .entry)) + 1 ⌝ }
 {
     if value.len() == 0 {
         out[at] = DASH;
@@ -33,10 +33,9 @@ fn put_value(out: &mut [u8], at: usize, value: &[u8]) -> usize
 // The line of a grouping. The place behind it.
 fn put_grouping(out: &mut [u8], at: usize, tag: u16, value: &[u8]) -> usize
     requires { ⌜ at + 2 * length (now value) + 7 ≤ length (now out) ⌝ }
-    ensures { λ r. ⌜ (r ≤ length (now (out .entry))) × (length (now (out .exit)) ≡ length (now (out .entry))) ⌝ }
+    ensures { λ r. ⌜ r ≤ length (now (out .entry)) ⌝ }
 {
-    let number = [(tag / 256) as u8, (tag % 256) as u8];
-    hex::put_hex(out, at, &number);
+    hex::put_hex4(out, at, tag);
     out[at + 4] = BLANK;
     let end = put_value(out, at + 5, value);
     out[end] = LINE_FEED;
@@ -58,7 +57,7 @@ fn room_for(out: &[u8], filled: usize, more: usize) -> usize
 // The line of a grouping behind what is filled. How much is filled then.
 fn print_grouping(out: &mut [u8], filled: usize, tag: u16, value: &[u8]) -> usize
     requires { ⌜ (filled ≤ length (now out)) × (2 * length (now value) + 7 ≤ length (now out)) ⌝ }
-    ensures { λ r. ⌜ (r ≤ length (now (out .entry))) × (length (now (out .exit)) ≡ length (now (out .entry))) ⌝ }
+    ensures { λ r. ⌜ r ≤ length (now (out .entry)) ⌝ }
 {
     let at = room_for(out, filled, 2 * value.len() + LINE_MORE);
     put_grouping(out, at, tag, value)
@@ -152,26 +151,6 @@ fn print_ending(out: &[u8], filled: usize, left: usize)
     }
 }
 
-// The loop counts its turns down from a number that no run uses up, since nothing says that an input ends.
-fn print_order(window: &mut [u8], out: &mut [u8])
-    requires { ⌜ (length (now window) ≡ 131072) × (length (now out) ≡ 262151) ⌝ }
-{
-    let mut kept: usize = 0;
-    let mut filled: usize = 0;
-    let mut turns = u64::MAX;
-    while 0 < turns {
-        let rest = print_next(window, kept, out, filled);
-        kept = rest.kept;
-        filled = rest.filled;
-        if rest.more {
-            turns -= 1;
-        } else {
-            turns = 0;
-        }
-    }
-    print_ending(out, filled, kept);
-}
-
 // The buffers, each by what its user asks of it: the longest line of a window has room.
 fn window_buffer() -> [u8; 131072]
     ensures { λ r. ⌜ 131072 ≡ length r ⌝ }
@@ -185,8 +164,22 @@ fn line_buffer() -> [u8; 262151]
     [0; 262151]
 }
 
+// The loop counts its turns down from a number that no run uses up, since nothing says that an input ends.
 fn main() {
     let mut window = window_buffer();
     let mut out = line_buffer();
-    print_order(&mut window, &mut out);
+    let mut kept: usize = 0;
+    let mut filled: usize = 0;
+    let mut turns = u64::MAX;
+    while 0 < turns {
+        let rest = print_next(&mut window, kept, &mut out, filled);
+        kept = rest.kept;
+        filled = rest.filled;
+        if rest.more {
+            turns -= 1;
+        } else {
+            turns = 0;
+        }
+    }
+    print_ending(&out, filled, kept);
 }

@@ -9,8 +9,8 @@ use files::write_table;
 use form::write;
 use libc::STDIN_FILENO;
 use model::Card;
+use register::Entered;
 ghost use mathlib.Core.Path.{_≡_};
-ghost use Prim.Native.Nat.{_<_};
 ghost use lib.ListN.{length};
 ghost use Rattle.lists.specs.Bytes.{zeros};
 ghost use Rattle.model.specs.Stored.{areaSize};
@@ -19,47 +19,23 @@ ghost use Rattle.soundness.specs.Keeps.{Good};
 // 252 records. `register` plays them, and the lines that it makes are dropped.
 const BLOCK_SIZE: usize = 65520;
 
-// The card after a block, the events so far by their last five digits, and whether the input goes on.
-struct Block {
-    pub card: Card,
-    pub count: u64,
-    pub more: bool,
-}
-
-// Reads a block and plays its whole records. A torn last record is not an event.
-fn play_block(c: Card, area: &mut [u8], count: u64, block: &mut [u8], lines: &mut [u8]) -> Block
-    requires { ⌜ Good areaSize c (now area) × (count < 100000) × (length (now block) ≡ 65520) × (length (now lines) ≡ 6552) ⌝ }
-    ensures { λ r. ⌜ Good areaSize (r .card) (now (area .exit)) × (r .count < 100000) ⌝ }
+// Plays the whole records of block after block; a torn last record is not an event. The loop counts its turns down from a
+// number that no run uses up, since nothing says that an input ends.
+fn play_all(c: Card, area: &mut [u8]) -> Entered
+    requires { ⌜ Good areaSize c (now area) ⌝ }
 {
-    let got = io::read_full(STDIN_FILENO, block);
-    let k = got / register::RECORD_SIZE;
-    let e = register::enter_all(c, area, &block[..k * register::RECORD_SIZE], count, lines);
-    let card = e.card;
-    Block {
-        card: card,
-        count: e.count,
-        more: got == BLOCK_SIZE,
-    }
-}
-
-// The loop counts its turns down from a number that no run uses up, since nothing says that an input ends.
-fn play_all(c: Card, area: &mut [u8], block: &mut [u8], lines: &mut [u8]) -> Block
-    requires { ⌜ Good areaSize c (now area) × (length (now block) ≡ 65520) × (length (now lines) ≡ 6552) ⌝ }
-{
-    let mut last = Block {
-        card: c,
-        count: 0,
-        more: true,
-    };
+    let mut block = block_buffer();
+    let mut lines = line_buffer();
+    let mut last = Entered { card: c, count: 0 };
     let mut turns = u64::MAX;
     while 0 < turns {
+        let got = io::read_full(STDIN_FILENO, &mut block);
         let card = last.card;
-        last = play_block(card, area, last.count, block, lines);
-        if last.more {
-            turns -= 1;
-        } else {
+        last = register::enter_all(card, area, &block[..got], last.count, &mut lines);
+        if got < BLOCK_SIZE {
             return last;
         }
+        turns -= 1;
     }
     last
 }
@@ -92,14 +68,10 @@ fn show(chip: &[u8]) {
         );
         return;
     }
-    let fresh_card = made.card;
     let mut area = clear_area();
-    let mut block = block_buffer();
-    let mut lines = line_buffer();
-    let last = play_all(fresh_card, &mut area, &mut block, &mut lines);
-    let card = last.card;
-    write_facts(card, last.count);
-    write_table(card, &area);
+    let last = play_all(made.card, &mut area);
+    write_facts(last.card, last.count);
+    write_table(last.card, &area);
 }
 
 fn main() {

@@ -56,7 +56,7 @@ loop-again c =
     let args = c .before .before .before .before .before .before .before .before .before .before .before .before .args in
     let e = found-at .ensures in
     let h = found-ahead (now (args .order)) (loop .at) (rw e at (if1 .left)) in
-    (rw e (h .1), omega arith, print-grouping .ensures .1 ∙ loop .inv .2)
+    (rw e (h .1), omega arith, print-grouping .kept .0 ∙ loop .inv .2)
 
 same-length-2 : tie.Need-same-length-2 Inv-loop μ-loop
 same-length-2 c = search needs

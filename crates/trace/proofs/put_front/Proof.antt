@@ -1,12 +1,22 @@
+use mathlib.Core.Path.{_∙_}
 use native.Mathlib.Omega.{arith}
-use lib.ListN.{length-take}
+use lib.ListN.{length-set, length-take}
 use denote.Ref.{now}
 use borrow.Author.Needs.{needs}
 use Rattle.trace.proofs.put_front.Statement.{statement}
 use Rattle.trace.proofs.put_front.Tie as tie
 
-put-none-requires : tie.Need-put-none-requires
-put-none-requires c κs = search needs
+slice-write-out : tie.Need-slice-write-out
+slice-write-out c = search needs
+
+add-out : tie.Need-add-out
+add-out c = search needs
+
+slice-write-out-2 : tie.Need-slice-write-out-2
+slice-write-out-2 c = simp length-set (omega arith)
+
+add-result : tie.Need-add-result
+add-result c = search needs
 
 same-length : tie.Need-same-length
 same-length c = search needs
@@ -17,38 +27,38 @@ returns c = search needs
 at-most-requires : tie.Need-at-most-requires
 at-most-requires c κs = search needs
 
-put-char-requires : tie.Need-put-char-requires
-put-char-requires c κs = search needs
-
 add-put-hex : tie.Need-add-put-hex
 add-put-hex c = search needs
 
 slice-aggregate-put-hex : tie.Need-slice-aggregate-put-hex
-slice-aggregate-put-hex c = simp length-take (omega (arith, c .before .before .before .before .before .before .at-most .ensures))
+slice-aggregate-put-hex c = simp length-take (omega (arith, c .before .before .at-most .ensures))
 
 put-hex-requires : tie.Need-put-hex-requires
-put-hex-requires c κs = simp length-take (omega (arith, c .before .before .before .before .before .before .at-most .ensures))
+put-hex-requires c κs = simp (length-set, length-take) (omega (arith, c .before .before .at-most .ensures))
 
 same-length-2 : tie.Need-same-length-2
-same-length-2 c = search needs
+same-length-2 c =
+    let a = c .before .before .before .before .before .before .before .before .before .args in
+    c .before .before .put-hex .ensures .1 ∙ length-set (now (a .out)) (a .at) 32
 
 returns-2 : tie.Need-returns-2
 returns-2 c =
     let put-hex = c .before .before .put-hex in
-    let at-most = c .before .before .before .before .before .before .before .before .before .at-most in
-    let args = c .before .before .before .before .before .before .before .before .before .before .before .before .before .args in
-    let k = at-most .result in
-    omega (arith, put-hex .ensures .0, length-take k (now (args .bytes)))
+    let at-most = c .before .before .before .before .before .at-most in
+    let args = c .before .before .before .before .before .before .before .before .before .args in
+    omega (arith, put-hex .ensures .0, length-take (at-most .result) (now (args .bytes)))
 
 pub put-front-spec : {M : Type 1} → statement M
 put-front-spec =
     tie.close
     (tie.spec
-    put-none-requires
+    slice-write-out
+    add-out
+    slice-write-out-2
+    add-result
     same-length
     returns
     at-most-requires
-    put-char-requires
     add-put-hex
     slice-aggregate-put-hex
     put-hex-requires

@@ -20,8 +20,8 @@ mul-s c = search needs
 array-copy-out-s : tie.Need-array-copy-out-s Inv-loop μ-loop
 array-copy-out-s c = search needs
 
-put-secret-requires : tie.Need-put-secret-requires Inv-loop μ-loop
-put-secret-requires c κs = search needs
+put-front-requires : tie.Need-put-front-requires Inv-loop μ-loop
+put-front-requires c κs = search needs
 
 add-i : tie.Need-add-i Inv-loop μ-loop
 add-i c = search needs
@@ -47,7 +47,7 @@ put-secrets-spec =
     loop-holds
     mul-s
     array-copy-out-s
-    put-secret-requires
+    put-front-requires
     add-i
     loop-less
     loop-again

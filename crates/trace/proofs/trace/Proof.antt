@@ -1,4 +1,3 @@
-use mathlib.Core.Path.{sym}
 use denote.Ref.{now}
 use borrow.Author.Needs.{needs}
 use Rattle.soundness.proofs.Sessions.{fresh-keeps}
@@ -20,30 +19,15 @@ returns c = search needs
 clear-area-requires : tie.Need-clear-area-requires
 clear-area-requires c κs = search needs
 
-block-buffer-requires : tie.Need-block-buffer-requires
-block-buffer-requires c κs = search needs
-
-line-buffer-requires : tie.Need-line-buffer-requires
-line-buffer-requires c κs = search needs
-
 slice-aggregate-trace-blocks : tie.Need-slice-aggregate-trace-blocks
 slice-aggregate-trace-blocks c = search needs
 
-slice-aggregate-trace-blocks-2 : tie.Need-slice-aggregate-trace-blocks-2
-slice-aggregate-trace-blocks-2 c = search needs
-
-slice-aggregate-trace-blocks-3 : tie.Need-slice-aggregate-trace-blocks-3
-slice-aggregate-trace-blocks-3 c = search needs
-
 trace-blocks-requires : tie.Need-trace-blocks-requires
 trace-blocks-requires c κs =
-    let line-buffer = c .before .before .before .line-buffer in
-    let block-buffer = c .before .before .before .before .block-buffer in
-    let clear-area = c .before .before .before .before .before .clear-area in
-    let fresh = c .before .before .before .before .before .before .before .before .before .fresh in
-    let args = c .before .before .before .before .before .before .before .before .before .before .before .args in
-    let chip = now (args .chip) in
-    (rw (fresh .ensures, clear-area .ensures .0) (fresh-keeps chip), sym (block-buffer .ensures), sym (line-buffer .ensures))
+    let clear-area = c .before .clear-area in
+    let fresh = c .before .before .before .before .fresh in
+    let chip = now (c .before .before .before .before .before .before .args .chip) in
+    rw (fresh .ensures, clear-area .ensures .0) (fresh-keeps chip)
 
 slice-aggregate-show-area : tie.Need-slice-aggregate-show-area
 slice-aggregate-show-area c = search needs
@@ -63,11 +47,7 @@ trace-spec =
     write-all-requires
     returns
     clear-area-requires
-    block-buffer-requires
-    line-buffer-requires
     slice-aggregate-trace-blocks
-    slice-aggregate-trace-blocks-2
-    slice-aggregate-trace-blocks-3
     trace-blocks-requires
     slice-aggregate-show-area
     show-area-requires

@@ -1,4 +1,4 @@
-use mathlib.Core.Path.{_≡_}
+use mathlib.Core.Path.{_≡_, _∙_}
 use lib.ListN.{length}
 use borrow.Author.Needs.{needs}
 use Rattle.model.specs.Stored.{areaSize}
@@ -7,17 +7,37 @@ use Rattle.trace.proofs.trace_blocks.Statement.{statement}
 use Rattle.trace.proofs.trace_blocks.Tie as tie
 
 abbrev Inv-loop : tie.InvT-loop
-Inv-loop c₀ area₀ block₀ lines₀ turns₀ c area block lines turns =
-    Good areaSize c area × (length area ≡ length area₀) × (length block ≡ length block₀) × (length lines ≡ length lines₀)
+Inv-loop c₀ area₀ block₀ turns₀ c area block turns = Good areaSize c area × (length area ≡ length area₀) × (length block ≡ 6240)
 
 abbrev μ-loop : tie.MeasureT-loop
-μ-loop c₀ area₀ block₀ lines₀ turns₀ c area block lines turns = turns
+μ-loop c₀ area₀ block₀ turns₀ c area block turns = turns
+
+block-buffer-requires : tie.Need-block-buffer-requires Inv-loop μ-loop
+block-buffer-requires c κs = search needs
 
 loop-holds : tie.Need-loop-holds Inv-loop μ-loop
 loop-holds c = search needs
 
-trace-block-requires : tie.Need-trace-block-requires Inv-loop μ-loop
-trace-block-requires c κs = search needs
+slice-aggregate-read-full : tie.Need-slice-aggregate-read-full Inv-loop μ-loop
+slice-aggregate-read-full c = search needs
+
+read-full-requires : tie.Need-read-full-requires Inv-loop μ-loop
+read-full-requires c κs = search needs
+
+array-share-prefix-block : tie.Need-array-share-prefix-block Inv-loop μ-loop
+array-share-prefix-block c = search needs
+
+slice-aggregate-trace-all : tie.Need-slice-aggregate-trace-all Inv-loop μ-loop
+slice-aggregate-trace-all c = search needs
+
+trace-all-requires : tie.Need-trace-all-requires Inv-loop μ-loop
+trace-all-requires c κs = search needs
+
+same-length : tie.Need-same-length Inv-loop μ-loop
+same-length c = c .before .before .before .trace-all .kept .1 .0 ∙ c .before .before .before .before .before .before .before .before .before .before .loop .inv .1
+
+returns : tie.Need-returns Inv-loop μ-loop
+returns c = search needs
 
 sub-turns : tie.Need-sub-turns Inv-loop μ-loop
 sub-turns c = search needs
@@ -26,28 +46,14 @@ loop-less : tie.Need-loop-less Inv-loop μ-loop
 loop-less c = search needs
 
 loop-again : tie.Need-loop-again Inv-loop μ-loop
-loop-again c = search needs
-
-same-length : tie.Need-same-length Inv-loop μ-loop
-same-length c = search needs
+loop-again c =
+    let t = c .before .before .before .trace-all in
+    let r = c .before .before .before .before .before .before .before .read-full in
+    let l = c .before .before .before .before .before .before .before .before .before .before .loop in
+    (t .ensures, t .kept .1 .0 ∙ l .inv .1, r .kept .1 .0 ∙ l .inv .2)
 
 same-length-2 : tie.Need-same-length-2 Inv-loop μ-loop
-same-length-2 c = search needs
-
-same-length-3 : tie.Need-same-length-3 Inv-loop μ-loop
-same-length-3 c = search needs
-
-returns : tie.Need-returns Inv-loop μ-loop
-returns c = search needs
-
-same-length-4 : tie.Need-same-length-4 Inv-loop μ-loop
-same-length-4 c = search needs
-
-same-length-5 : tie.Need-same-length-5 Inv-loop μ-loop
-same-length-5 c = search needs
-
-same-length-6 : tie.Need-same-length-6 Inv-loop μ-loop
-same-length-6 c = search needs
+same-length-2 c = c .before .loop .inv .1
 
 returns-2 : tie.Need-returns-2 Inv-loop μ-loop
 returns-2 c = search needs
@@ -58,16 +64,17 @@ trace-blocks-spec =
     (tie.spec
     Inv-loop
     μ-loop
+    block-buffer-requires
     loop-holds
-    trace-block-requires
+    slice-aggregate-read-full
+    read-full-requires
+    array-share-prefix-block
+    slice-aggregate-trace-all
+    trace-all-requires
+    same-length
+    returns
     sub-turns
     loop-less
     loop-again
-    same-length
     same-length-2
-    same-length-3
-    returns
-    same-length-4
-    same-length-5
-    same-length-6
     returns-2)

@@ -1,4 +1,4 @@
-use Prim.Native.Nat.{_-_}
+use Prim.Native.Nat.{_-_, _≤_}
 use mathlib.Core.Path.{_≡_}
 use lib.ListN.{length}
 use borrow.Author.Needs.{needs}
@@ -6,43 +6,41 @@ use Rattle.show.proofs.form.put_form.Statement.{statement}
 use Rattle.show.proofs.form.put_form.Tie as tie
 
 abbrev Inv-loop : tie.InvT-loop
-Inv-loop out₀ form values to₀ value₀ next₀ i₀ out to value next i = length out ≡ length out₀
+Inv-loop line₀ form values used₀ place₀ next₀ i₀ line used place next i =
+    (used ≤ length line) × (length line ≡ length line₀) × (next ≤ i) × (i ≤ length form)
 
 abbrev μ-loop : tie.MeasureT-loop
-μ-loop out₀ form values to₀ value₀ next₀ i₀ out to value next i = length form - i
+μ-loop line₀ form values used₀ place₀ next₀ i₀ line used place next i = length form - i
 
 loop-holds : tie.Need-loop-holds Inv-loop μ-loop
 loop-holds c = search needs
 
-shared-slice-read-takes : tie.Need-shared-slice-read-takes Inv-loop μ-loop
-shared-slice-read-takes c = search needs
+shared-slice-read-c : tie.Need-shared-slice-read-c Inv-loop μ-loop
+shared-slice-read-c c = search needs
 
-takes-requires : tie.Need-takes-requires Inv-loop μ-loop
-takes-requires c κs = search needs
-
-mul-value : tie.Need-mul-value Inv-loop μ-loop
-mul-value c = search needs
-
-shared-slice-read-value : tie.Need-shared-slice-read-value Inv-loop μ-loop
-shared-slice-read-value c = search needs
+taken-by-requires : tie.Need-taken-by-requires Inv-loop μ-loop
+taken-by-requires c κs = search needs
 
 add-next : tie.Need-add-next Inv-loop μ-loop
 add-next c = search needs
 
-part-end-requires : tie.Need-part-end-requires Inv-loop μ-loop
-part-end-requires c κs = search needs
+value-at-requires : tie.Need-value-at-requires Inv-loop μ-loop
+value-at-requires c κs = search needs
 
-sub-put-part : tie.Need-sub-put-part Inv-loop μ-loop
-sub-put-part c = search needs
+room-in-requires : tie.Need-room-in-requires Inv-loop μ-loop
+room-in-requires c κs = search needs
 
-part-put-part-start : tie.Need-part-put-part-start Inv-loop μ-loop
-part-put-part-start c = search needs
+mark-of-requires : tie.Need-mark-of-requires Inv-loop μ-loop
+mark-of-requires c κs = search needs
 
-part-put-part-end : tie.Need-part-put-part-end Inv-loop μ-loop
-part-put-part-end c = search needs
+put-mark-requires : tie.Need-put-mark-requires Inv-loop μ-loop
+put-mark-requires c κs = search needs
 
-put-part-requires : tie.Need-put-part-requires Inv-loop μ-loop
-put-part-requires c κs = search needs
+place-after-requires : tie.Need-place-after-requires Inv-loop μ-loop
+place-after-requires c κs = search needs
+
+add-i : tie.Need-add-i Inv-loop μ-loop
+add-i c = search needs
 
 loop-less : tie.Need-loop-less Inv-loop μ-loop
 loop-less c = search needs
@@ -63,16 +61,15 @@ put-form-spec =
     Inv-loop
     μ-loop
     loop-holds
-    shared-slice-read-takes
-    takes-requires
-    mul-value
-    shared-slice-read-value
+    shared-slice-read-c
+    taken-by-requires
     add-next
-    part-end-requires
-    sub-put-part
-    part-put-part-start
-    part-put-part-end
-    put-part-requires
+    value-at-requires
+    room-in-requires
+    mark-of-requires
+    put-mark-requires
+    place-after-requires
+    add-i
     loop-less
     loop-again
     same-length

@@ -1,15 +1,15 @@
-use Prim.Native.Nat.{_+_, _*_, _-_, _≤_}
+use Prim.Native.Nat.{_-_, _≤_}
 use mathlib.Core.Path.{_≡_}
 use lib.ListN.{length}
 use borrow.Author.Needs.{needs}
-use Rattle.trace.proofs.put_descriptors.Statement.{statement}
-use Rattle.trace.proofs.put_descriptors.Tie as tie
+use Rattle.trace.proofs.stored_table.Statement.{statement}
+use Rattle.trace.proofs.stored_table.Tie as tie
 
 abbrev Inv-loop : tie.InvT-loop
-Inv-loop out₀ at count files to₀ i₀ out to i = (i ≤ count) × (length out ≡ length out₀) × (to ≤ at + 36 * i)
+Inv-loop count files table₀ i₀ table i = (i ≤ count) × (length table ≡ 558)
 
 abbrev μ-loop : tie.MeasureT-loop
-μ-loop out₀ at count files to₀ i₀ out to i = count - i
+μ-loop count files table₀ i₀ table i = count - i
 
 loop-holds : tie.Need-loop-holds Inv-loop μ-loop
 loop-holds c = search needs
@@ -23,11 +23,17 @@ array-copy-out-d c = search needs
 stored-requires : tie.Need-stored-requires Inv-loop μ-loop
 stored-requires c κs = search needs
 
-slice-aggregate-put-hex : tie.Need-slice-aggregate-put-hex Inv-loop μ-loop
-slice-aggregate-put-hex c = search needs
+slice-aggregate-put-bytes : tie.Need-slice-aggregate-put-bytes Inv-loop μ-loop
+slice-aggregate-put-bytes c = search needs
 
-put-hex-requires : tie.Need-put-hex-requires Inv-loop μ-loop
-put-hex-requires c κs = search needs
+mul-put-bytes : tie.Need-mul-put-bytes Inv-loop μ-loop
+mul-put-bytes c = search needs
+
+slice-aggregate-put-bytes-2 : tie.Need-slice-aggregate-put-bytes-2 Inv-loop μ-loop
+slice-aggregate-put-bytes-2 c = search needs
+
+put-bytes-requires : tie.Need-put-bytes-requires Inv-loop μ-loop
+put-bytes-requires c κs = search needs
 
 add-i : tie.Need-add-i Inv-loop μ-loop
 add-i c = search needs
@@ -38,14 +44,11 @@ loop-less c = search needs
 loop-again : tie.Need-loop-again Inv-loop μ-loop
 loop-again c = search needs
 
-same-length : tie.Need-same-length Inv-loop μ-loop
-same-length c = search needs
-
 returns : tie.Need-returns Inv-loop μ-loop
 returns c = search needs
 
-pub put-descriptors-spec : {M : Type 1} → statement M
-put-descriptors-spec =
+pub stored-table-spec : {M : Type 1} → statement M
+stored-table-spec =
     tie.close
     (tie.spec
     Inv-loop
@@ -54,10 +57,11 @@ put-descriptors-spec =
     mul-d
     array-copy-out-d
     stored-requires
-    slice-aggregate-put-hex
-    put-hex-requires
+    slice-aggregate-put-bytes
+    mul-put-bytes
+    slice-aggregate-put-bytes-2
+    put-bytes-requires
     add-i
     loop-less
     loop-again
-    same-length
     returns)
