@@ -11,8 +11,8 @@ ghost use Rattle.lists.specs.Bytes.{zeros};
 ghost use Rattle.model.specs.Stored.{areaSize};
 ghost use Rattle.soundness.specs.Keeps.{Good};
 
-// 252 records, and their lines.
-const BLOCK_SIZE: usize = 65520;
+// 126 records, and their lines.
+const BLOCK_SIZE: usize = 32760;
 
 // Plays the whole records of block after block, and writes their lines; a torn last record is not an event. How many
 // events there were, by the last five digits. The loop counts its turns down from a number that no run uses up, since
@@ -45,16 +45,16 @@ fn clear_area() -> [u8; 4096]
     [0; 4096]
 }
 
-fn block_buffer() -> [u8; 65520]
-    ensures { λ r. ⌜ 65520 ≡ length r ⌝ }
+fn block_buffer() -> [u8; 32760]
+    ensures { λ r. ⌜ 32760 ≡ length r ⌝ }
 {
-    [0; 65520]
+    [0; 32760]
 }
 
-fn line_buffer() -> [u8; 6552]
-    ensures { λ r. ⌜ 6552 ≡ length r ⌝ }
+fn line_buffer() -> [u8; 3276]
+    ensures { λ r. ⌜ 3276 ≡ length r ⌝ }
 {
-    [0; 6552]
+    [0; 3276]
 }
 
 // The events of a card that the chip record gives; none where it is refused.

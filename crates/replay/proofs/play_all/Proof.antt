@@ -10,7 +10,7 @@ use Rattle.replay.proofs.play_all.Tie as tie
 
 abbrev Inv-loop : tie.InvT-loop
 Inv-loop area₀ block₀ lines₀ last₀ turns₀ area block lines last turns =
-    Good areaSize (last .card) area × (last .count < 100000) × (length area ≡ length area₀) × (length block ≡ 65520) × (length lines ≡ 6552)
+    Good areaSize (last .card) area × (last .count < 100000) × (length area ≡ length area₀) × (length block ≡ 32760) × (length lines ≡ 3276)
 
 abbrev μ-loop : tie.MeasureT-loop
 μ-loop area₀ block₀ lines₀ last₀ turns₀ area block lines last turns = turns
