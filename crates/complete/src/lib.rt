@@ -34,7 +34,7 @@ fn is_shut(o: Open) -> bool
 }
 
 // No mandatory row is missing, and no value open.
-fn is_ready(l: Loading) -> bool
+pub fn is_ready(l: Loading) -> bool
     ensures { λ r. ⌜ ((a : List ℕ) → r ≡ ready (stateOf l a)) ⌝ }
 {
     if rows::mandatory_missing(l.rows) {

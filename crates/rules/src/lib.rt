@@ -19,7 +19,7 @@ ghost use Rattle.records.specs.Steps.{fromE, fromD, fromC, fromB, Dued};
 const RECORD_ROW: usize = 11;
 
 // Rule e: the most bytes that the value may have.
-fn room_of(l: Loading, row: usize, tag: u16) -> Verdict
+pub fn room_of(l: Loading, row: usize, tag: u16) -> Verdict
     requires { ⌜ (1 ≤ row) × (row ≤ 11) × (l .count ≤ 31) ⌝ }
     ensures { λ v. ⌜ v ≡ roomOf (fileList l) row tag ⌝ }
 {

@@ -46,7 +46,7 @@ fn spanned_at(
     laying::record_fed(l, area, d, at, h.tag, 0, len)
 }
 
-fn fits_row(x: Row, room: usize, len: usize) -> bool
+pub fn fits_row(x: Row, room: usize, len: usize) -> bool
     requires { ⌜ 1 ≤ x .step ⌝ }
     ensures { λ r. ⌜ r ≡ fitsRow x room len ⌝ }
 {

@@ -41,12 +41,12 @@ all-length [] s = refl
 all-length (d ∷ []) (packs.more l h s) = one-length 0x80 d [] h refl
 all-length (d ∷ e ∷ ds) (packs.more l h s) = one-length 0x00 d (storedAll (e ∷ ds)) h (all-length (e ∷ ds) s)
 
-records-length : (capacity : ℕ) (order : List ℕ) → complete capacity order ≡ true → length (joined (recordsFor order)) ≡ length (recordsFor order) * recordSize
+pub records-length : (capacity : ℕ) (order : List ℕ) → complete capacity order ≡ true → length (joined (recordsFor order)) ≡ length (recordsFor order) * recordSize
 unfolding recordsFor
 records-length capacity order e =
     one-length 0x01 (0x94 ∷ 0x84 ∷ 0x00 ∷ []) (storedAll (cutOf order)) (omega arith) (all-length (cutOf order) (cut-sized capacity order e))
 
-joined-same : (rs : List (List ℕ)) → packs.joined rs ≡ joined rs
+pub joined-same : (rs : List (List ℕ)) → packs.joined rs ≡ joined rs
 unfolding packs.joined joined
 joined-same [] = refl
 joined-same (r ∷ rs) = ap (λ (l : List ℕ). r ++ l) (joined-same rs)

@@ -1,0 +1,131 @@
+use Prim.Native.Nat.{ℕ, suc, _+_, _*_, _-_, _≤_, _<_, _/_, _%_}
+use mathlib.Core.Path.{_≡_, refl, ap, sym, _∙_}
+use mathlib.Core.List.{List, [], _∷_, _++_}
+use native.Mathlib.Omega.{arith}
+use native.Mathlib.Numerals.{add-one}
+use lib.ListN.{length, take, drop, set, getD, length-set, length-take, length-drop, length-append}
+use denote.Ref.{now}
+use borrow.Author.Needs.{needs}
+use lib.Seq.{length-take-le}
+use Rattle.job_register.proofs.Jobs.{room-within, no-area, refused, few, fits, playable, entered}
+use Rattle.job_register.proofs.enter_job.Statement.{statement}
+use Rattle.job_register.proofs.enter_job.Tie as tie
+use Rattle.job_register.proofs.enter_job.Reads as reads
+use Rattle.job_register.proofs.enter_job.Lts as lts
+use Rattle.job_register.proofs.play.Reads as play-reads
+use Rattle.job_register.proofs.refused_by.Reads as refused-by-reads
+use Rattle.job_register.proofs.room_for.Reads as room-for-reads
+use Rattle.job_session.proofs.lay_session.Reads as lay-session-reads
+
+refused-by-requires : tie.Need-refused-by-requires
+refused-by-requires c κs = search needs
+
+returns : tie.Need-returns
+returns c = 
+    let s = c .before .before .before .before .before .before .before .args in
+    rw (c .refused-by .ensures) (no-area (now (s .chip)) (now (s .order)) (now (s .room)) (now (s .area)) (now (s .out)) (c .before .if1 .taken))
+
+room-for-requires : tie.Need-room-for-requires
+room-for-requires c κs = search needs
+
+slice-relend-prefix-lay-session : tie.Need-slice-relend-prefix-lay-session
+slice-relend-prefix-lay-session c = 
+    let s = c .before .before .before .before .before .before .before .args in
+    rw (c .room-for .ensures) (room-within (length (now (s .room))) (length (now (s .out))))
+
+slice-aggregate-lay-session : tie.Need-slice-aggregate-lay-session
+slice-aggregate-lay-session c = 
+    let s = c .before .before .before .before .before .before .before .before .args in
+    sym (length-take-le _ (now (s .room)) (rw (c .before .room-for .ensures) (room-within (length (now (s .room))) (length (now (s .out))))))
+
+lay-session-requires : tie.Need-lay-session-requires
+lay-session-requires c κs = search needs
+
+refused-by-requires-2 : tie.Need-refused-by-requires-2
+refused-by-requires-2 c κs = search needs
+
+same-length : tie.Need-same-length
+same-length c = search needs
+
+returns-2 : tie.Need-returns-2
+returns-2 c = 
+    let s = c .before .before .before .before .before .before .before .before .before .before .before .before .before .before .args in
+    let laid = c .before .before .before .before .before .lay-session in
+    let n = c .before .before .before .before .before .before .before .room-for in
+    rw (c .refused-by2 .ensures) (refused (now (s .chip)) (now (s .order)) (now (s .room)) (now (s .area)) (now (s .out)) (c .before .before .before .before .before .before .before .before .if1 .left) (n .result) (n .ensures) (laid .result) (laid .last .1 .1 .0) (laid .ensures) (c .before .if2 .taken))
+
+add-end : tie.Need-add-end
+add-end c = 
+    let s = c .before .before .before .before .before .before .before .before .before .before .before .before .before .before .args in
+    let laid = c .before .before .before .before .before .lay-session in
+    let n = c .before .before .before .before .before .before .before .room-for in
+    let h = few (now (s .chip)) (now (s .order)) (now (s .room)) (now (s .area)) (now (s .out)) (c .before .before .before .before .before .before .before .before .if1 .left) (n .result) (n .ensures) (laid .result) (laid .last .1 .1 .0) (laid .ensures) (c .before .if2 .left) in
+    record { fits = omega arith }
+
+mul-end : tie.Need-mul-end
+mul-end c = 
+    let s = c .before .before .before .before .before .before .before .before .before .before .before .before .before .before .args in
+    let laid = c .before .before .before .before .before .lay-session in
+    let n = c .before .before .before .before .before .before .before .room-for in
+    let h = few (now (s .chip)) (now (s .order)) (now (s .room)) (now (s .area)) (now (s .out)) (c .before .before .before .before .before .before .before .before .if1 .left) (n .result) (n .ensures) (laid .result) (laid .last .1 .1 .0) (laid .ensures) (c .before .if2 .left) in
+    record { fits = omega arith }
+
+slice-reshare-prefix-play : tie.Need-slice-reshare-prefix-play
+slice-reshare-prefix-play c = 
+    let s = c .before .before .before .before .before .before .before .before .before .before .before .before .before .before .args in
+    let laid = c .before .before .before .before .before .lay-session in
+    let n = c .before .before .before .before .before .before .before .room-for in
+    fits (now (s .chip)) (now (s .order)) (now (s .room)) (now (s .area)) (now (s .out)) (c .before .before .before .before .before .before .before .before .if1 .left) (n .result) (n .ensures) (laid .result) (laid .last .1 .1 .0) (laid .ensures) (c .before .if2 .left)
+
+slice-aggregate-play : tie.Need-slice-aggregate-play
+slice-aggregate-play c = 
+    let s = c .before .before .before .before .before .before .before .before .before .before .before .before .before .before .before .args in
+    let laid = c .before .before .before .before .before .before .lay-session in
+    let n = c .before .before .before .before .before .before .before .before .room-for in
+    sym (length-take-le _ _ (fits (now (s .chip)) (now (s .order)) (now (s .room)) (now (s .area)) (now (s .out)) (c .before .before .before .before .before .before .before .before .before .if1 .left) (n .result) (n .ensures) (laid .result) (laid .last .1 .1 .0) (laid .ensures) (c .before .before .if2 .left)))
+
+play-requires : tie.Need-play-requires
+play-requires c κs = 
+    let s = c .before .before .before .before .before .before .before .before .before .before .before .before .before .before .before .before .before .args in
+    let laid = c .before .before .before .before .before .before .before .before .lay-session in
+    let n = c .before .before .before .before .before .before .before .before .before .before .room-for in
+    playable (now (s .chip)) (now (s .order)) (now (s .room)) (now (s .area)) (now (s .out)) (c .before .before .before .before .before .before .before .before .before .before .before .if1 .left) (n .result) (n .ensures) (laid .result) (laid .last .1 .1 .0) (laid .ensures) (c .before .before .before .before .if2 .left)
+
+same-length-2 : tie.Need-same-length-2
+same-length-2 c = search needs
+
+same-length-3 : tie.Need-same-length-3
+same-length-3 c = search needs
+
+same-length-4 : tie.Need-same-length-4
+same-length-4 c = search needs
+
+returns-3 : tie.Need-returns-3
+returns-3 c = 
+    let s = c .before .before .before .before .before .before .before .before .before .before .before .before .before .before .before .before .before .before .before .before .before .before .args in
+    let laid = c .before .before .before .before .before .before .before .before .before .before .before .before .before .lay-session in
+    let n = c .before .before .before .before .before .before .before .before .before .before .before .before .before .before .before .room-for in
+    entered (now (s .chip)) (now (s .order)) (now (s .room)) (now (s .area)) (now (s .out)) (c .before .before .before .before .before .before .before .before .before .before .before .before .before .before .before .before .if1 .left) (n .result) (n .ensures) (laid .result) (laid .last .1 .1 .0) (laid .ensures) (c .before .before .before .before .before .before .before .before .before .if2 .left) _ _ _ (c .before .before .before .before .play .ensures)
+
+pub enter-job-spec : {M : Type 1} → statement M
+enter-job-spec =
+    tie.close
+    (tie.spec
+    refused-by-requires
+    returns
+    room-for-requires
+    slice-relend-prefix-lay-session
+    slice-aggregate-lay-session
+    lay-session-requires
+    refused-by-requires-2
+    same-length
+    returns-2
+    add-end
+    mul-end
+    slice-reshare-prefix-play
+    slice-aggregate-play
+    play-requires
+    same-length-2
+    same-length-3
+    same-length-4
+    returns-3)

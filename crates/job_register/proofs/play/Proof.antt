@@ -1,0 +1,73 @@
+use Prim.Native.Nat.{ℕ, suc, _+_, _*_, _-_, _≤_, _<_, _/_, _%_}
+use mathlib.Core.Path.{_≡_, refl, ap, sym, _∙_}
+use mathlib.Core.List.{List, [], _∷_, _++_}
+use native.Mathlib.Omega.{arith}
+use native.Mathlib.Numerals.{add-one}
+use lib.ListN.{length, take, drop, set, getD, length-set, length-take, length-drop, length-append}
+use denote.Ref.{now}
+use borrow.Author.Needs.{needs}
+use Rattle.lists.specs.Bytes.{zeros}
+use Rattle.model.specs.Stored.{areaSize}
+use Rattle.model.specs.Session.{freshOf, eventsIn}
+use Rattle.register.specs.Entries.{enteredOf, Enters}
+use Rattle.soundness.proofs.Sessions.{fresh-keeps}
+use Rattle.job_register.specs.Jobs.{playedOf}
+use Rattle.job_register.proofs.Plays.{ends, answered}
+use Rattle.job_register.proofs.play.Statement.{statement}
+use Rattle.job_register.proofs.play.Tie as tie
+use Rattle.job_register.proofs.play.Reads as reads
+use Rattle.job_register.proofs.play.Lts as lts
+use Rattle.ending.proofs.put_end.Reads as put-end-reads
+use Rattle.fresh.proofs.fresh.Reads as fresh-reads
+use Rattle.register.proofs.enter_all.Reads as enter-all-reads
+use Rattle.slices.proofs.clear.Reads as clear-reads
+
+fresh-requires : tie.Need-fresh-requires
+fresh-requires c κs = search needs
+
+clear-requires : tie.Need-clear-requires
+clear-requires c κs = search needs
+
+enter-all-requires : tie.Need-enter-all-requires
+enter-all-requires c κs =
+    let s = c .before .before .before .before .before .before .before .before .before .before .before .before in
+    let good = fresh-keeps (now (s .args .chip)) in
+    let area : zeros (length (now (s .args .area))) ≡ zeros areaSize = ap zeros (s .pre .full) in
+    (rw (c .before .before .before .before .before .before .before .fresh .ensures, c .before .before .before .before .clear .ensures, area) good, omega arith, omega (arith, s .pre .room))
+
+mul-put-end : tie.Need-mul-put-end
+mul-put-end c = let s = c .before .before .before .before .before .before .before .before .before .before .before .before .before .before .before .before .before .before in record { fits = omega (arith, s .pre .room, s .good) }
+
+put-end-requires : tie.Need-put-end-requires
+put-end-requires c κs = let s = c .before .before .before .before .before .before .before .before .before .before .before .before .before .before .before .before .before .before in omega (arith, s .pre .room, c .before .before .before .before .before .enter-all .kept .1 .1 .1 .1 .0)
+
+same-length : tie.Need-same-length
+same-length c = search needs
+
+same-length-2 : tie.Need-same-length-2
+same-length-2 c = search needs
+
+returns : tie.Need-returns
+unfolding playedOf
+returns c =
+    let s = c .before .before .before .before .before .before .before .before .before .before .before .before .before .before .before .before .before .before .before .before .before .before in
+    let e = c .before .before .before .before .before .before .before .before .before .enter-all .ensures .2 in
+    let x : Enters (enteredOf (eventsIn (now (s .args .records))) 0 (freshOf (now (s .args .chip)) .card) (zeros areaSize) (now (s .args .records))) _ _ _ (now (s .args .out)) _ = rw (c .before .before .before .before .before .before .before .before .before .before .before .before .before .before .before .before .before .fresh .ensures, c .before .before .before .before .before .before .before .before .before .before .before .before .before .before .clear .ensures, ap zeros (s .pre .full)) at e in
+    record {
+      answers = answered _ (playedOf (now (s .args .chip)) (now (s .args .records))) _ (x .leaves);
+      keeps = x .keeps;
+      prints = ends (now (s .args .chip)) (now (s .args .records)) (now (s .args .out)) _ _ _ _ _ x (c .before .before .before .put-end .ensures);
+    }
+
+pub play-spec : {M : Type 1} → statement M
+play-spec =
+    tie.close
+    (tie.spec
+    fresh-requires
+    clear-requires
+    enter-all-requires
+    mul-put-end
+    put-end-requires
+    same-length
+    same-length-2
+    returns)

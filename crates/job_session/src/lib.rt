@@ -1,0 +1,67 @@
+// The session of a job, in lent room: INSTALL '0C' and SELECT of the instance, and behind them the writer's records.
+use model::Written;
+ghost use mathlib.Core.Path.{_≡_};
+ghost use mathlib.Core.List.{_++_};
+ghost use Prim.Native.Nat.{_≤_, min};
+ghost use lib.ListN.{length};
+ghost use Rattle.lists.specs.Over.{overwrite};
+ghost use Rattle.cutting.specs.Job.{installRecord, selectRecord};
+ghost use Rattle.job_session.specs.Laid.{sessionWriting, Lays};
+
+pub const RECORD_SIZE: usize = 260;
+
+// How many bytes INSTALL and SELECT take.
+const FRONT_SIZE: usize = 520;
+
+// The installation of 1TIC.ICA, and its selection.
+fn install_record() -> [u8; 260]
+    ensures { λ r. ⌜ (r ≡ installRecord) × (260 ≡ length r) ⌝ }
+{
+    let mut record = [0u8; 260];
+    slices::lay(
+        &mut record,
+        b"\x01\x0C\x00\x21\x081TIC.PKG\x081TIC.MOD\x081TIC.ICA\x01\x00\x02\xC9\x00\x00",
+    );
+    record
+}
+
+fn select_record() -> [u8; 260]
+    ensures { λ r. ⌜ (r ≡ selectRecord) × (260 ≡ length r) ⌝ }
+{
+    let mut record = [0u8; 260];
+    slices::lay(&mut record, b"\x03\x00\x00\x081TIC.ICA");
+    record
+}
+
+fn lay_front(room: &mut [u8])
+    requires { ⌜ 520 ≤ length (now room) ⌝ }
+    ensures { λ _. ⌜ now (room .exit) ≡ overwrite (now (room .entry)) 0 (installRecord ++ selectRecord) ⌝ }
+{
+    let install = install_record();
+    let select = select_record();
+    slices::put_bytes(room, 0, &install);
+    slices::put_bytes(room, RECORD_SIZE, &select);
+}
+
+// Where the writer's records begin: nowhere in the room where it has none behind the first two.
+fn front_in(size: usize) -> usize
+    ensures { λ r. ⌜ r ≡ min 520 size ⌝ }
+{
+    if size < FRONT_SIZE {
+        return size;
+    }
+    FRONT_SIZE
+}
+
+// The session of this chip's job, laid from the room's front; the writer's number, and the count of its records.
+pub fn lay_session(chip: &[u8], order: &[u8], room: &mut [u8]) -> Written
+    ensures { λ r. ⌜ Lays (sessionWriting (now (chip .entry)) (now (order .entry)) (length (now (room .entry)))) (now (room .entry)) r (now (room .exit)) ⌝ }
+{
+    let front = front_in(room.len());
+    let written = writer::write(chip, order, &mut room[front..]);
+    if written.number != 0 {
+        return written;
+    }
+    lay_front(room);
+    written
+}

@@ -1,0 +1,46 @@
+use Prim.Native.Nat.{ℕ, suc, _+_, _*_, _-_, _≤_, _<_, _/_, _%_}
+use mathlib.Core.Path.{_≡_, refl, ap, sym, _∙_}
+use mathlib.Core.List.{List, [], _∷_, _++_}
+use native.Mathlib.Omega.{arith}
+use native.Mathlib.Numerals.{add-one}
+use lib.ListN.{length, take, drop, set, getD, length-set, length-take, length-drop, length-append}
+use denote.Ref.{now}
+use borrow.Author.Needs.{needs}
+use Rattle.model.specs.declared.Open.{Open}
+use Rattle.reasons.specs.Reasons.{openStop}
+use Rattle.reasons.proofs.end_stop.Statement.{statement}
+use Rattle.reasons.proofs.end_stop.Tie as tie
+use Rattle.reasons.proofs.end_stop.Reads as reads
+use Rattle.reasons.proofs.end_stop.Lts as lts
+
+enum-told : tie.Need-enum-told
+enum-told c = search needs
+
+sub-t9 : tie.Need-sub-t9
+sub-t9 c = search needs
+
+enum-known-pending : tie.Need-enum-known-pending
+enum-known-pending c = search needs
+
+enum-known-pending-2 : tie.Need-enum-known-pending-2
+enum-known-pending-2 c = search needs
+
+returns : tie.Need-returns
+returns c =
+    let s = c .before .before .args in
+    λ a. sym (ap (λ (o : Open). openStop o (s .size) (s .place) (s .l .rows)) (c .enum-told .given .1))
+
+returns-2 : tie.Need-returns-2
+returns-2 c =
+    let s = c .before .before .before .args in
+    λ a. sym (ap (λ (o : Open). openStop o (s .size) (s .place) (s .l .rows)) (c .before .pending .given .1))
+
+returns-3 : tie.Need-returns-3
+returns-3 c =
+    let s = c .before .before .before .args in
+    λ a. sym (ap (λ (o : Open). openStop o (s .size) (s .place) (s .l .rows)) (c .before .pending2 .given .1))
+
+pub end-stop-spec : {M : Type 1} → statement M
+end-stop-spec =
+    tie.close
+    (tie.spec enum-told sub-t9 enum-known-pending enum-known-pending-2 returns returns-2 returns-3)

@@ -1,0 +1,118 @@
+// Why an order is not complete: the first piece of it that the card does not take, or what its end leaves.
+use model::Loading;
+use model::Open;
+use steps::Course;
+use stops::Cause;
+use stops::Stop;
+ghost use mathlib.Core.Path.{_≡_};
+ghost use mathlib.Core.List.{List};
+ghost use Prim.Native.Nat.{ℕ, _-_, _≤_};
+ghost use lib.ListN.{length, drop};
+ghost use Rattle.model.specs.Order.{orderLimit, challengedState};
+ghost use Rattle.steps.specs.Steps.{stateOf};
+ghost use Rattle.reasons.specs.Reasons.{whyFrom, whyNot, atEnd, endStop};
+
+// How many bytes '9484' takes, with no value.
+const FRONT_SIZE: usize = 3;
+
+const CHALLENGE_ROW: usize = 1;
+
+// The word of an order whose pieces all pass, where the end is asked for.
+const NOT_YET: u16 = 0x6985;
+
+// The order is complete, or stops somewhere.
+pub enum Why {
+    Complete,
+    Stops(Stop),
+}
+
+// What an order leaves that is not complete though each piece passes: a value open, from the last place, or rows missing.
+fn end_stop(l: Loading, size: usize, place: usize) -> Stop
+    requires { ⌜ 3 ≤ size ⌝ }
+    ensures { λ r. ⌜ ((a : List ℕ) → r ≡ endStop size place (stateOf l a)) ⌝ }
+{
+    let pending = l.pending;
+    match pending {
+        Open::Shut => Stop {
+            place: size - FRONT_SIZE,
+            tag: 0x0000,
+            word: NOT_YET,
+            cause: Cause::Rows(l.rows),
+        },
+        Open::Table { held: _, missing } => Stop {
+            place: place,
+            tag: 0x3100,
+            word: NOT_YET,
+            cause: Cause::Open(missing),
+        },
+        Open::Record {
+            tag,
+            written: _,
+            missing,
+        } => Stop {
+            place: place,
+            tag: tag,
+            word: NOT_YET,
+            cause: Cause::Open(missing),
+        },
+    }
+}
+
+// The end of a walk in which each piece passed.
+fn at_end(l: Loading, size: usize, place: usize) -> Why
+    requires { ⌜ 3 ≤ size ⌝ }
+    ensures { λ r. ⌜ ((a : List ℕ) → r ≡ atEnd size place (stateOf l a)) ⌝ }
+{
+    if complete::is_ready(l) {
+        return Why::Complete;
+    }
+    Why::Stops(end_stop(l, size, place))
+}
+
+// The groupings of a command behind '9484', on a fresh card of this capacity that has given its challenge: the card's own rules.
+fn why_behind(capacity: u8, d: &[u8]) -> Why
+    requires { ⌜ (3 ≤ length (now d)) × (length (now d) ≤ 8195) ⌝ }
+    ensures { λ r. ⌜ r ≡ whyFrom (length (now (d .entry)) - 3) capacity (length (now (d .entry))) 0 (drop 3 (now (d .entry))) challengedState ⌝ }
+{
+    let mut load = steps::with_taken(fresh::fresh_loading(), CHALLENGE_ROW);
+    let mut area = [0u8; 4096];
+    let mut place: usize = 0;
+    let mut i = FRONT_SIZE;
+    let mut turns = d.len() - FRONT_SIZE;
+    while 0 < turns {
+        if d.len() <= i {
+            return at_end(load, d.len(), place);
+        }
+        let s = rules::grouping_at(load, &mut area, capacity, 0x00, d, i);
+        let course = s.course;
+        match course {
+            Course::Went(j) => {
+                load = s.load;
+                place = i - FRONT_SIZE;
+                i = j;
+                turns -= 1;
+            }
+            Course::Asked(_) => {
+                let after = s.load;
+                return Why::Stops(stops::stop_at(load, after, 0x9000, d, i));
+            }
+            Course::Failed(w) => {
+                let after = s.load;
+                return Why::Stops(stops::stop_at(load, after, w, d, i));
+            }
+        }
+    }
+    at_end(load, d.len(), place)
+}
+
+// Why this order is not complete for a chip of this capacity.
+pub fn why_not(capacity: u8, order: &[u8]) -> Why
+    requires { ⌜ length (now order) ≤ orderLimit ⌝ }
+    ensures { λ r. ⌜ r ≡ whyNot capacity (now (order .entry)) ⌝ }
+{
+    let mut data = [0u8; 8195];
+    slices::lay(&mut data, b"\x94\x84\x00");
+    slices::put_bytes(&mut data, FRONT_SIZE, order);
+    let end = FRONT_SIZE + order.len();
+    why_behind(capacity, &data[..end])
+}

@@ -1,0 +1,2 @@
+-- The first missing row; and bytes of a descriptor in an array.
+pub mod Stops

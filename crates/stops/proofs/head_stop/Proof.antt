@@ -1,0 +1,83 @@
+use Prim.Native.Nat.{ℕ, suc, _+_, _*_, _-_, _≤_, _<_, _/_, _%_}
+use mathlib.Core.Path.{_≡_, refl, ap, sym, _∙_}
+use mathlib.Core.List.{List, [], _∷_, _++_}
+use native.Mathlib.Omega.{arith}
+use native.Mathlib.Numerals.{add-one}
+use lib.ListN.{length, take, drop, set, getD, length-set, length-take, length-drop, length-append}
+use denote.Ref.{now}
+use borrow.Author.Needs.{needs}
+use borrow.Author.Tests.{eq-eqb, ne-eqb}
+use Rattle.stops.specs.Stops.{headStop}
+use Rattle.stops.proofs.head_stop.Statement.{statement}
+use Rattle.stops.proofs.head_stop.Tie as tie
+use Rattle.stops.proofs.head_stop.Reads as reads
+use Rattle.stops.proofs.head_stop.Lts as lts
+use Rattle.due.proofs.is_due.Reads as is-due-reads
+use Rattle.header.proofs.is_query.Reads as is-query-reads
+use Rattle.rows.proofs.row_of.Reads as row-of-reads
+use Rattle.stops.proofs.room_stop.Reads as room-stop-reads
+use Rattle.stops.proofs.stop_as.Reads as stop-as-reads
+use Rattle.stops.proofs.undue_cause.Reads as undue-cause-reads
+
+is-query-requires : tie.Need-is-query-requires
+is-query-requires c κs = search needs
+
+stop-as-requires : tie.Need-stop-as-requires
+stop-as-requires c κs = search needs
+
+returns : tie.Need-returns
+unfolding headStop
+returns c = rw (c .stop-as .ensures, sym (c .before .before .is-query .ensures) ∙ c .before .if1 .taken)
+
+row-of-requires : tie.Need-row-of-requires
+row-of-requires c κs = search needs
+
+stop-as-requires-2 : tie.Need-stop-as-requires-2
+stop-as-requires-2 c κs = search needs
+
+returns-2 : tie.Need-returns-2
+unfolding headStop
+returns-2 c =
+    let r = c .before .before .row-of .ensures .0 in
+    rw (c .stop-as2 .ensures, sym (c .before .before .before .before .is-query .ensures) ∙ c .before .before .before .if1 .left, ← r, eq-eqb _ _ (c .before .if2 .taken))
+
+is-due-requires : tie.Need-is-due-requires
+is-due-requires c κs = search needs
+
+room-stop-requires : tie.Need-room-stop-requires
+room-stop-requires c κs = search needs
+
+returns-3 : tie.Need-returns-3
+unfolding headStop
+returns-3 c =
+    let r = c .before .before .before .before .row-of .ensures .0 in
+    rw (c .room-stop .ensures, sym (c .before .before .before .before .before .before .is-query .ensures) ∙ c .before .before .before .before .before .if1 .left, ← r, ne-eqb _ _ (c .before .before .before .if2 .left), sym (c .before .before .is-due .ensures) ∙ c .before .if3 .taken)
+
+undue-cause-requires : tie.Need-undue-cause-requires
+undue-cause-requires c κs = search needs
+
+stop-as-requires-3 : tie.Need-stop-as-requires-3
+stop-as-requires-3 c κs = search needs
+
+returns-4 : tie.Need-returns-4
+unfolding headStop
+returns-4 c =
+    let r = c .before .before .before .before .before .row-of .ensures .0 in
+    rw (c .stop-as3 .ensures, c .before .undue-cause .ensures, sym (c .before .before .before .before .before .before .before .is-query .ensures) ∙ c .before .before .before .before .before .before .if1 .left, ← r, ne-eqb _ _ (c .before .before .before .before .if2 .left), sym (c .before .before .before .is-due .ensures) ∙ c .before .before .if3 .left)
+
+pub head-stop-spec : {M : Type 1} → statement M
+head-stop-spec =
+    tie.close
+    (tie.spec
+    is-query-requires
+    stop-as-requires
+    returns
+    row-of-requires
+    stop-as-requires-2
+    returns-2
+    is-due-requires
+    room-stop-requires
+    returns-3
+    undue-cause-requires
+    stop-as-requires-3
+    returns-4)

@@ -1,0 +1,59 @@
+use Prim.Native.Nat.{ℕ, suc, _+_, _*_, _-_, _≤_, _<_, _/_, _%_}
+use mathlib.Core.Path.{_≡_, refl, ap, sym, _∙_}
+use mathlib.Core.List.{List, [], _∷_, _++_}
+use native.Mathlib.Omega.{arith}
+use native.Mathlib.Numerals.{add-one}
+use lib.ListN.{length, take, drop, set, getD, length-set, length-take, length-drop, length-append}
+use denote.Ref.{now}
+use borrow.Author.Needs.{needs}
+use Rattle.stops.proofs.room_stop.Statement.{statement}
+use Rattle.stops.proofs.room_stop.Tie as tie
+use Rattle.stops.proofs.room_stop.Reads as reads
+use Rattle.stops.proofs.room_stop.Lts as lts
+use Rattle.rules.proofs.room_of.Reads as room-of-reads
+use Rattle.stops.proofs.absent_cause.Reads as absent-cause-reads
+use Rattle.stops.proofs.length_stop.Reads as length-stop-reads
+use Rattle.stops.proofs.stop_as.Reads as stop-as-reads
+
+room-of-requires : tie.Need-room-of-requires
+room-of-requires c κs = search needs
+
+enum-known-verdict : tie.Need-enum-known-verdict
+enum-known-verdict c = search needs
+
+length-stop-requires : tie.Need-length-stop-requires
+length-stop-requires c κs = search needs
+
+enum-told : tie.Need-enum-told
+enum-told c = search needs
+
+absent-cause-requires : tie.Need-absent-cause-requires
+absent-cause-requires c κs = search needs
+
+stop-as-requires : tie.Need-stop-as-requires
+stop-as-requires c κs = search needs
+
+returns : tie.Need-returns
+returns c =
+    let s = c .before .before .before .before .before .before .args in
+    let e = sym (c .before .before .before .before .room-of .ensures) ∙ c .before .before .verdict .given .1 in
+    c .length-stop .ensures ∙ rw e
+
+returns-2 : tie.Need-returns-2
+returns-2 c =
+    let s = c .before .before .before .before .before .before .args in
+    let e = sym (c .before .before .before .before .room-of .ensures) ∙ c .before .before .enum-told .given .1 in
+    rw (c .stop-as .ensures, c .before .absent-cause .ensures, e)
+
+pub room-stop-spec : {M : Type 1} → statement M
+room-stop-spec =
+    tie.close
+    (tie.spec
+    room-of-requires
+    enum-known-verdict
+    length-stop-requires
+    enum-told
+    absent-cause-requires
+    stop-as-requires
+    returns
+    returns-2)

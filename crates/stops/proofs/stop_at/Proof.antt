@@ -1,0 +1,59 @@
+use Prim.Native.Nat.{ℕ, suc, _+_, _*_, _-_, _≤_, _<_, _/_, _%_}
+use mathlib.Core.Path.{_≡_, refl, ap, sym, _∙_}
+use mathlib.Core.List.{List, [], _∷_, _++_}
+use native.Mathlib.Omega.{arith}
+use native.Mathlib.Numerals.{add-one}
+use lib.ListN.{length, take, drop, set, getD, length-set, length-take, length-drop, length-append}
+use denote.Ref.{now}
+use borrow.Author.Needs.{needs}
+use Rattle.records.proofs.Chains.{header-within}
+use Rattle.stops.specs.Stops.{stopOf}
+use Rattle.stops.proofs.stop_at.Statement.{statement}
+use Rattle.stops.proofs.stop_at.Tie as tie
+use Rattle.stops.proofs.stop_at.Reads as reads
+use Rattle.stops.proofs.stop_at.Lts as lts
+use Rattle.header.proofs.header_at.Reads as header-at-reads
+use Rattle.stops.proofs.head_stop.Reads as head-stop-reads
+use Rattle.stops.proofs.torn_stop.Reads as torn-stop-reads
+
+header-at-requires : tie.Need-header-at-requires
+header-at-requires c κs = search needs
+
+enum-known-header : tie.Need-enum-known-header
+enum-known-header c = search needs
+
+head-stop-requires : tie.Need-head-stop-requires
+head-stop-requires c κs =
+    let s = c .before .before .before .before .before in
+    let e = sym (c .before .before .before .header-at .ensures) ∙ c .before .header .given .1 in
+    (s .pre .0, s .pre .1, s .pre .2, header-within (now (s .args .d)) (s .args .at) _ (omega arith) e, s .pre .4)
+
+enum-told : tie.Need-enum-told
+enum-told c = search needs
+
+torn-stop-requires : tie.Need-torn-stop-requires
+torn-stop-requires c κs = search needs
+
+returns : tie.Need-returns
+unfolding stopOf
+returns c =
+    let e = sym (c .before .before .before .before .header-at .ensures) ∙ c .before .before .header .given .1 in
+    c .head-stop .ensures ∙ rw e
+
+returns-2 : tie.Need-returns-2
+unfolding stopOf
+returns-2 c =
+    let e = sym (c .before .before .before .header-at .ensures) ∙ c .before .enum-told .given .1 in
+    c .torn-stop .ensures ∙ rw e
+
+pub stop-at-spec : {M : Type 1} → statement M
+stop-at-spec =
+    tie.close
+    (tie.spec
+    header-at-requires
+    enum-known-header
+    head-stop-requires
+    enum-told
+    torn-stop-requires
+    returns
+    returns-2)

@@ -1,0 +1,44 @@
+use Prim.Native.Nat.{ℕ, suc, _+_, _*_, _-_, _≤_, _<_, _/_, _%_}
+use mathlib.Core.Path.{_≡_, refl, ap, sym, _∙_}
+use mathlib.Core.List.{List, [], _∷_, _++_}
+use native.Mathlib.Omega.{arith}
+use native.Mathlib.Numerals.{add-one}
+use lib.ListN.{length, take, drop, set, getD, length-set, length-take, length-drop, length-append}
+use denote.Ref.{now}
+use borrow.Author.Needs.{needs}
+use borrow.Author.Tests.{eq-eqb, ne-eqb}
+use Rattle.stops.specs.Stops.{valueStop}
+use Rattle.stops.proofs.value_stop.Statement.{statement}
+use Rattle.stops.proofs.value_stop.Tie as tie
+use Rattle.stops.proofs.value_stop.Reads as reads
+use Rattle.stops.proofs.value_stop.Lts as lts
+use Rattle.stops.proofs.stop_as.Reads as stop-as-reads
+use Rattle.stops.proofs.table_stop.Reads as table-stop-reads
+
+table-stop-requires : tie.Need-table-stop-requires
+table-stop-requires c κs = search needs
+
+returns : tie.Need-returns
+unfolding valueStop
+returns c = rw (c .table-stop .ensures, eq-eqb _ _ (c .before .if1 .taken))
+
+stop-as-requires : tie.Need-stop-as-requires
+stop-as-requires c κs = search needs
+
+returns-2 : tie.Need-returns-2
+unfolding valueStop
+returns-2 c =
+    rw (c .stop-as .ensures, ne-eqb _ _ (c .before .before .if1 .left), eq-eqb _ _ (c .before .if2 .taken))
+
+stop-as-requires-2 : tie.Need-stop-as-requires-2
+stop-as-requires-2 c κs = search needs
+
+returns-3 : tie.Need-returns-3
+unfolding valueStop
+returns-3 c =
+    rw (c .stop-as2 .ensures, ne-eqb _ _ (c .before .before .if1 .left), ne-eqb _ _ (c .before .if2 .left))
+
+pub value-stop-spec : {M : Type 1} → statement M
+value-stop-spec =
+    tie.close
+    (tie.spec table-stop-requires returns stop-as-requires returns-2 stop-as-requires-2 returns-3)

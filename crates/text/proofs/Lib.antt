@@ -1,0 +1,4 @@
+pub mod Laying
+pub mod Runs
+pub mod Theorems
+pub mod Examples

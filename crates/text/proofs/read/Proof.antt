@@ -1,0 +1,88 @@
+use Prim.Native.Nat.{_-_, _≤_, _<_}
+use mathlib.Core.Path.{_≡_, refl, _∙_}
+use native.Mathlib.Omega.{arith}
+use lib.ListN.{length, take}
+use lib.Seq.{take-all}
+use denote.Ref.{now}
+use borrow.Author.Needs.{needs}
+use Rattle.lists.specs.Over.{length-over}
+use Rattle.text.proofs.Runs.{Laid, laid-none, laid-room, laid-count, laid-reading, laid-turn}
+use Rattle.text.proofs.read.Statement.{statement}
+use Rattle.text.proofs.read.Tie as tie
+
+abbrev Inv-loop : tie.InvT-loop
+Inv-loop chars out₀ lines₀ p₀ n₀ i₀ out lines p n i = (i ≤ length chars) × Laid p₀ n₀ out₀ lines₀ (take i chars) p n out lines
+
+abbrev μ-loop : tie.MeasureT-loop
+μ-loop chars out₀ lines₀ p₀ n₀ i₀ out lines p n i = length chars - i
+
+loop-holds : tie.Need-loop-holds Inv-loop μ-loop
+loop-holds c = (search needs, laid-none _ _ _ _ (search needs))
+
+shared-slice-read-x : tie.Need-shared-slice-read-x Inv-loop μ-loop
+shared-slice-read-x c = search needs
+
+byte-of-requires : tie.Need-byte-of-requires Inv-loop μ-loop
+byte-of-requires c κs = search needs
+
+lay-requires : tie.Need-lay-requires Inv-loop μ-loop
+lay-requires c κs =
+    let l = c .before .before .before .before .before in
+    let s = l .before .before .before .before in
+    (laid-room _ _ _ _ (s .pre .0) (l .loop .inv .1), laid-count _ _ _ _ (s .pre .0) (l .loop .inv .1))
+
+step-requires : tie.Need-step-requires Inv-loop μ-loop
+step-requires c κs = search needs
+
+add-i : tie.Need-add-i Inv-loop μ-loop
+add-i c = search needs
+
+loop-less : tie.Need-loop-less Inv-loop μ-loop
+loop-less c = search needs
+
+loop-again : tie.Need-loop-again Inv-loop μ-loop
+loop-again c =
+    let lay = c .before .before .before .before .before in
+    let given = lay .before .before .before in
+    let inside = given .before .before in
+    let l = inside .before in
+    let s = l .before .before .before .before in
+    let e = lay .lay .ensures in
+    let h : l .loop .i < length (now (s .args .chars)) = inside .loop-test .taken in (
+      omega arith,
+      laid-turn (given .byte-of .ensures) (c .step .ensures) (e .0) (e .1) (e .2)
+          _ _ _ _ (now (s .args .chars)) (l .loop .i) (s .pre .0) h refl (l .loop .inv .1),
+    )
+
+same-length : tie.Need-same-length Inv-loop μ-loop
+same-length c = rw (c .before .loop .inv .1 .bytes, length-over)
+
+same-length-2 : tie.Need-same-length-2 Inv-loop μ-loop
+same-length-2 c = rw (c .before .loop .inv .1 .starts, length-over)
+
+returns : tie.Need-returns Inv-loop μ-loop
+returns c =
+    let l = c .before .loop in
+    let a = c .before .before .before .before .before .args in
+    let chars = now (a .chars) in
+    let e : take (l .i) chars ≡ chars = take-all (l .i) chars (c .loop-test .left) in
+    let k = l .inv .1 in
+    (laid-reading (a .r) k ∙ rw e, rw (k .bytes, e), rw (k .starts, e))
+
+pub read-spec : {M : Type 1} → statement M
+read-spec =
+    tie.close
+    (tie.spec
+    Inv-loop
+    μ-loop
+    loop-holds
+    shared-slice-read-x
+    byte-of-requires
+    lay-requires
+    step-requires
+    add-i
+    loop-less
+    loop-again
+    same-length
+    same-length-2
+    returns)
