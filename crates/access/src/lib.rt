@@ -3,7 +3,7 @@ ghost use mathlib.Core.Path.{_≡_};
 ghost use Prim.Native.Nat.{_<_};
 ghost use Rattle.model.specs.Table.{accessOk, accessesOk};
 
-fn access_ok(a: u8, k: u8) -> bool
+pub fn access_ok(a: u8, k: u8) -> bool
     ensures { λ r. ⌜ r ≡ accessOk a k ⌝ }
 {
     if a == 0x10 {

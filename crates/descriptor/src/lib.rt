@@ -38,7 +38,7 @@ pub fn df_ok(d: Descriptor) -> bool
     d.status <= 1
 }
 
-fn ef_type(t: u8) -> bool
+pub fn ef_type(t: u8) -> bool
     ensures { λ r. ⌜ r ≡ efType t ⌝ }
 {
     if t == BINARY {

@@ -130,3 +130,11 @@ module _ (chip order room area out : List ℕ) where
             keeps = q .keeps ∙ rw (eq-eqb (sessionWriting chip order n .number) 0 number-so, events-so);
             prints = q .prints ∙ rw (eq-eqb (sessionWriting chip order n .number) 0 number-so, events-so);
           })
+
+      pub entered-few : (x : Entry) (area′ out′ : List ℕ) → Plays chip (take ((r .count + 2) * recordSize) (p ++ drop n room)) out x area′ out′ → x .events ≤ 47
+      entered-few x area′ out′ y =
+          let f = few in
+          let e : x .events ≡ eventsIn (take ((r .count + 2) * recordSize) (p ++ drop n room)) = ap (λ (z : Entry). z .events) (y .answers) in
+          let s = events-so in
+          let c = laid-so .count in
+          rw (e, session-in) (omega arith)

@@ -1,6 +1,6 @@
 // The register of a job: its order cut, played on a fresh card of its chip, and a line for each event.
 ghost use mathlib.Core.Path.{_≡_};
-ghost use Prim.Native.Nat.{_+_, _*_};
+ghost use Prim.Native.Nat.{_≤_};
 ghost use lib.ListN.{length};
 ghost use Rattle.job_register.specs.Jobs.{refusedAs, recordRoom, jobWriting, Registers, Session, Plays};
 
@@ -72,7 +72,7 @@ pub fn enter_job(
     area: &mut [u8],
     out: &mut [u8],
 ) -> Entry
-    ensures { λ r. ⌜ Registers (now (chip .entry)) (jobWriting (now (chip .entry)) (now (order .entry)) (length (now (area .entry))) (length (now (room .entry))) (length (now (out .entry)))) (now (room .entry)) (now (area .entry)) (now (out .entry)) r (now (room .exit)) (now (area .exit)) (now (out .exit)) ⌝ }
+    ensures { λ r. ⌜ Registers (now (chip .entry)) (jobWriting (now (chip .entry)) (now (order .entry)) (length (now (area .entry))) (length (now (room .entry))) (length (now (out .entry)))) (now (room .entry)) (now (area .entry)) (now (out .entry)) r (now (room .exit)) (now (area .exit)) (now (out .exit)) × (r .events ≤ 47) ⌝ }
 {
     if area.len() != AREA_SIZE {
         return refused_by(1);

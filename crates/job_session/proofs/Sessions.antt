@@ -95,6 +95,11 @@ module _ (chip order room : List ℕ) (f : ℕ) (e : f ≡ min frontSize (length
         room = back-laid l ∙ rw (s, ne-eqb (writing chip order room .number) 0 m, over-none room f, over-none room 0);
       }
 
+  pub refused-none-written : (r .number ≡ 0 → ⊥) → r .count ≤ 45
+  refused-none-written n =
+      let s : writing chip order room .records ≡ [] = refused-none chip order (length room - frontSize) (λ z. n (wrote-so .number ∙ z)) in
+      rw (wrote-so .count, s) (omega arith)
+
   module _ (z : r .number ≡ 0) where
     accepted : Accepted chip order (length room - frontSize)
     accepted = write-only chip order (length room - frontSize) (sym (wrote-so .number) ∙ z)
@@ -106,6 +111,9 @@ module _ (chip order room : List ℕ) (f : ℕ) (e : f ≡ min frontSize (length
     joined-fits =
         let n : length (joined (recordsFor order)) ≡ length (recordsFor order) * recordSize = records-length (chipOf chip .capacity) order (accepted .complete-so) in
         rw (records-so, n) (accepted .room-so)
+
+    pub passed-few : r .count ≤ 45
+    passed-few = rw (wrote-so .count, records-so) (records-few (chipOf chip .capacity) order (accepted .complete-so) (accepted .short))
 
     room-fits : frontSize ≤ length room
     unfolding recordsFor

@@ -55,7 +55,7 @@ fn front_in(size: usize) -> usize
 
 // The session of this chip's job, laid from the room's front; the writer's number, and the count of its records.
 pub fn lay_session(chip: &[u8], order: &[u8], room: &mut [u8]) -> Written
-    ensures { λ r. ⌜ Lays (sessionWriting (now (chip .entry)) (now (order .entry)) (length (now (room .entry)))) (now (room .entry)) r (now (room .exit)) ⌝ }
+    ensures { λ r. ⌜ Lays (sessionWriting (now (chip .entry)) (now (order .entry)) (length (now (room .entry)))) (now (room .entry)) r (now (room .exit)) × (r .count ≤ 45) ⌝ }
 {
     let front = front_in(room.len());
     let written = writer::write(chip, order, &mut room[front..]);

@@ -42,7 +42,7 @@ fn counter_among(d: Descriptor, files: [Descriptor; 31], count: usize) -> bool
     false
 }
 
-fn data_ref_ok(d: Descriptor, files: [Descriptor; 31], count: usize) -> bool
+pub fn data_ref_ok(d: Descriptor, files: [Descriptor; 31], count: usize) -> bool
     requires { ⌜ count ≤ 31 ⌝ }
     ensures { λ r. ⌜ r ≡ dataRefOk d (take count files) ⌝ }
 {
@@ -95,7 +95,7 @@ fn rules_ok(d: Descriptor, files: [Descriptor; 31], count: usize) -> bool
 }
 
 // The bytes of the first `count` files.
-fn total_of(files: [Descriptor; 31], count: usize) -> usize
+pub fn total_of(files: [Descriptor; 31], count: usize) -> usize
     requires { ⌜ count ≤ 31 ⌝ }
     ensures { λ r. ⌜ (r ≡ total (take count files)) × (r ≤ count * 65535) ⌝ }
 {

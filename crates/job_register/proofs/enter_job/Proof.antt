@@ -7,7 +7,7 @@ use lib.ListN.{length, take, drop, set, getD, length-set, length-take, length-dr
 use denote.Ref.{now}
 use borrow.Author.Needs.{needs}
 use lib.Seq.{length-take-le}
-use Rattle.job_register.proofs.Jobs.{room-within, no-area, refused, few, fits, playable, entered}
+use Rattle.job_register.proofs.Jobs.{room-within, no-area, refused, few, fits, playable, entered, entered-few}
 use Rattle.job_register.proofs.enter_job.Statement.{statement}
 use Rattle.job_register.proofs.enter_job.Tie as tie
 use Rattle.job_register.proofs.enter_job.Reads as reads
@@ -23,7 +23,7 @@ refused-by-requires c κs = search needs
 returns : tie.Need-returns
 returns c = 
     let s = c .before .before .before .before .before .before .before .args in
-    rw (c .refused-by .ensures) (no-area (now (s .chip)) (now (s .order)) (now (s .room)) (now (s .area)) (now (s .out)) (c .before .if1 .taken))
+    (rw (c .refused-by .ensures) (no-area (now (s .chip)) (now (s .order)) (now (s .room)) (now (s .area)) (now (s .out)) (c .before .if1 .taken)), rw (c .refused-by .ensures) (omega arith))
 
 room-for-requires : tie.Need-room-for-requires
 room-for-requires c κs = search needs
@@ -52,14 +52,14 @@ returns-2 c =
     let s = c .before .before .before .before .before .before .before .before .before .before .before .before .before .before .args in
     let laid = c .before .before .before .before .before .lay-session in
     let n = c .before .before .before .before .before .before .before .room-for in
-    rw (c .refused-by2 .ensures) (refused (now (s .chip)) (now (s .order)) (now (s .room)) (now (s .area)) (now (s .out)) (c .before .before .before .before .before .before .before .before .if1 .left) (n .result) (n .ensures) (laid .result) (laid .last .1 .1 .0) (laid .ensures) (c .before .if2 .taken))
+    (rw (c .refused-by2 .ensures) (refused (now (s .chip)) (now (s .order)) (now (s .room)) (now (s .area)) (now (s .out)) (c .before .before .before .before .before .before .before .before .if1 .left) (n .result) (n .ensures) (laid .result) (laid .last .1 .1 .0) (laid .ensures .0) (c .before .if2 .taken)), rw (c .refused-by2 .ensures) (omega arith))
 
 add-end : tie.Need-add-end
 add-end c = 
     let s = c .before .before .before .before .before .before .before .before .before .before .before .before .before .before .args in
     let laid = c .before .before .before .before .before .lay-session in
     let n = c .before .before .before .before .before .before .before .room-for in
-    let h = few (now (s .chip)) (now (s .order)) (now (s .room)) (now (s .area)) (now (s .out)) (c .before .before .before .before .before .before .before .before .if1 .left) (n .result) (n .ensures) (laid .result) (laid .last .1 .1 .0) (laid .ensures) (c .before .if2 .left) in
+    let h = few (now (s .chip)) (now (s .order)) (now (s .room)) (now (s .area)) (now (s .out)) (c .before .before .before .before .before .before .before .before .if1 .left) (n .result) (n .ensures) (laid .result) (laid .last .1 .1 .0) (laid .ensures .0) (c .before .if2 .left) in
     record { fits = omega arith }
 
 mul-end : tie.Need-mul-end
@@ -67,7 +67,7 @@ mul-end c =
     let s = c .before .before .before .before .before .before .before .before .before .before .before .before .before .before .args in
     let laid = c .before .before .before .before .before .lay-session in
     let n = c .before .before .before .before .before .before .before .room-for in
-    let h = few (now (s .chip)) (now (s .order)) (now (s .room)) (now (s .area)) (now (s .out)) (c .before .before .before .before .before .before .before .before .if1 .left) (n .result) (n .ensures) (laid .result) (laid .last .1 .1 .0) (laid .ensures) (c .before .if2 .left) in
+    let h = few (now (s .chip)) (now (s .order)) (now (s .room)) (now (s .area)) (now (s .out)) (c .before .before .before .before .before .before .before .before .if1 .left) (n .result) (n .ensures) (laid .result) (laid .last .1 .1 .0) (laid .ensures .0) (c .before .if2 .left) in
     record { fits = omega arith }
 
 slice-reshare-prefix-play : tie.Need-slice-reshare-prefix-play
@@ -75,21 +75,21 @@ slice-reshare-prefix-play c =
     let s = c .before .before .before .before .before .before .before .before .before .before .before .before .before .before .args in
     let laid = c .before .before .before .before .before .lay-session in
     let n = c .before .before .before .before .before .before .before .room-for in
-    fits (now (s .chip)) (now (s .order)) (now (s .room)) (now (s .area)) (now (s .out)) (c .before .before .before .before .before .before .before .before .if1 .left) (n .result) (n .ensures) (laid .result) (laid .last .1 .1 .0) (laid .ensures) (c .before .if2 .left)
+    fits (now (s .chip)) (now (s .order)) (now (s .room)) (now (s .area)) (now (s .out)) (c .before .before .before .before .before .before .before .before .if1 .left) (n .result) (n .ensures) (laid .result) (laid .last .1 .1 .0) (laid .ensures .0) (c .before .if2 .left)
 
 slice-aggregate-play : tie.Need-slice-aggregate-play
 slice-aggregate-play c = 
     let s = c .before .before .before .before .before .before .before .before .before .before .before .before .before .before .before .args in
     let laid = c .before .before .before .before .before .before .lay-session in
     let n = c .before .before .before .before .before .before .before .before .room-for in
-    sym (length-take-le _ _ (fits (now (s .chip)) (now (s .order)) (now (s .room)) (now (s .area)) (now (s .out)) (c .before .before .before .before .before .before .before .before .before .if1 .left) (n .result) (n .ensures) (laid .result) (laid .last .1 .1 .0) (laid .ensures) (c .before .before .if2 .left)))
+    sym (length-take-le _ _ (fits (now (s .chip)) (now (s .order)) (now (s .room)) (now (s .area)) (now (s .out)) (c .before .before .before .before .before .before .before .before .before .if1 .left) (n .result) (n .ensures) (laid .result) (laid .last .1 .1 .0) (laid .ensures .0) (c .before .before .if2 .left)))
 
 play-requires : tie.Need-play-requires
 play-requires c κs = 
     let s = c .before .before .before .before .before .before .before .before .before .before .before .before .before .before .before .before .before .args in
     let laid = c .before .before .before .before .before .before .before .before .lay-session in
     let n = c .before .before .before .before .before .before .before .before .before .before .room-for in
-    playable (now (s .chip)) (now (s .order)) (now (s .room)) (now (s .area)) (now (s .out)) (c .before .before .before .before .before .before .before .before .before .before .before .if1 .left) (n .result) (n .ensures) (laid .result) (laid .last .1 .1 .0) (laid .ensures) (c .before .before .before .before .if2 .left)
+    playable (now (s .chip)) (now (s .order)) (now (s .room)) (now (s .area)) (now (s .out)) (c .before .before .before .before .before .before .before .before .before .before .before .if1 .left) (n .result) (n .ensures) (laid .result) (laid .last .1 .1 .0) (laid .ensures .0) (c .before .before .before .before .if2 .left)
 
 same-length-2 : tie.Need-same-length-2
 same-length-2 c = search needs
@@ -105,7 +105,8 @@ returns-3 c =
     let s = c .before .before .before .before .before .before .before .before .before .before .before .before .before .before .before .before .before .before .before .before .before .before .args in
     let laid = c .before .before .before .before .before .before .before .before .before .before .before .before .before .lay-session in
     let n = c .before .before .before .before .before .before .before .before .before .before .before .before .before .before .before .room-for in
-    entered (now (s .chip)) (now (s .order)) (now (s .room)) (now (s .area)) (now (s .out)) (c .before .before .before .before .before .before .before .before .before .before .before .before .before .before .before .before .if1 .left) (n .result) (n .ensures) (laid .result) (laid .last .1 .1 .0) (laid .ensures) (c .before .before .before .before .before .before .before .before .before .if2 .left) _ _ _ (c .before .before .before .before .play .ensures)
+    (entered (now (s .chip)) (now (s .order)) (now (s .room)) (now (s .area)) (now (s .out)) (c .before .before .before .before .before .before .before .before .before .before .before .before .before .before .before .before .if1 .left) (n .result) (n .ensures) (laid .result) (laid .last .1 .1 .0) (laid .ensures .0) (c .before .before .before .before .before .before .before .before .before .if2 .left) _ _ _ (c .before .before .before .before .play .ensures),
+    entered-few (now (s .chip)) (now (s .order)) (now (s .room)) (now (s .area)) (now (s .out)) (c .before .before .before .before .before .before .before .before .before .before .before .before .before .before .before .before .if1 .left) (n .result) (n .ensures) (laid .result) (laid .last .1 .1 .0) (laid .ensures .0) (c .before .before .before .before .before .before .before .before .before .if2 .left) _ _ _ (c .before .before .before .before .play .ensures))
 
 pub enter-job-spec : {M : Type 1} → statement M
 enter-job-spec =

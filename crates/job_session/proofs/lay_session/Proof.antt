@@ -6,7 +6,7 @@ use native.Mathlib.Numerals.{add-one}
 use lib.ListN.{length, take, drop, set, getD, length-set, length-take, length-drop, length-append}
 use denote.Ref.{now}
 use borrow.Author.Needs.{needs}
-use Rattle.job_session.proofs.Sessions.{refused, front-fits, passed}
+use Rattle.job_session.proofs.Sessions.{refused, refused-none-written, front-fits, passed, passed-few}
 use Rattle.job_session.proofs.lay_session.Statement.{statement}
 use Rattle.job_session.proofs.lay_session.Tie as tie
 use Rattle.job_session.proofs.lay_session.Reads as reads
@@ -37,7 +37,8 @@ returns : tie.Need-returns
 returns c =
     let s = c .before .before .before .before .before .before .before .before .before .before .args in
     let write = c .before .before .before .before .write in
-    refused (now (s .chip)) (now (s .order)) (now (s .room)) _ (c .before .before .before .before .before .before .front-in .ensures) (write .result) (write .last .1 .1 .0) (write .ensures) (c .if1 .taken)
+    (refused (now (s .chip)) (now (s .order)) (now (s .room)) _ (c .before .before .before .before .before .before .front-in .ensures) (write .result) (write .last .1 .1 .0) (write .ensures) (c .if1 .taken),
+    refused-none-written (now (s .chip)) (now (s .order)) (now (s .room)) _ (c .before .before .before .before .before .before .front-in .ensures) (write .result) (write .last .1 .1 .0) (write .ensures) (c .if1 .taken))
 
 lay-front-requires : tie.Need-lay-front-requires
 lay-front-requires c κs =
@@ -52,8 +53,9 @@ returns-2 : tie.Need-returns-2
 returns-2 c =
     let s = c .before .before .before .before .before .before .before .before .before .before .before .before .before .before .args in
     let write = c .before .before .before .before .before .before .before .before .write in
-    passed (now (s .chip)) (now (s .order)) (now (s .room)) _ (c .before .before .before .before .before .before .before .before .before .before .front-in .ensures) (write .result) (write .last .1 .1 .0) (write .ensures) (c .before .before .before .before .if1 .left)
-    _ (c .before .before .lay-front .ensures)
+    (passed (now (s .chip)) (now (s .order)) (now (s .room)) _ (c .before .before .before .before .before .before .before .before .before .before .front-in .ensures) (write .result) (write .last .1 .1 .0) (write .ensures) (c .before .before .before .before .if1 .left)
+    _ (c .before .before .lay-front .ensures),
+    passed-few (now (s .chip)) (now (s .order)) (now (s .room)) _ (c .before .before .before .before .before .before .before .before .before .before .front-in .ensures) (write .result) (write .last .1 .1 .0) (write .ensures) (c .before .before .before .before .if1 .left))
 
 pub lay-session-spec : {M : Type 1} → statement M
 lay-session-spec =

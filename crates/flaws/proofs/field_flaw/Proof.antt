@@ -1,0 +1,45 @@
+use Rattle.lists.specs.Choice.{cases}
+use borrow.Author.Needs.{needs}
+use Rattle.flaws.proofs.field_flaw.Statement.{statement}
+use Rattle.flaws.proofs.field_flaw.Tie as tie
+
+returns : tie.Need-returns
+returns c = search cases
+
+returns-2 : tie.Need-returns-2
+returns-2 c = search cases
+
+ef-type-requires : tie.Need-ef-type-requires
+ef-type-requires c κs = search needs
+
+returns-3 : tie.Need-returns-3
+returns-3 c = simp (← c .before .before .before .ef-type .ensures, c .before .before .if3 .taken) (search cases)
+
+sizes-ok-requires : tie.Need-sizes-ok-requires
+sizes-ok-requires c κs = search needs
+
+returns-4 : tie.Need-returns-4
+returns-4 c =
+    let b = c .before .before .before .before in
+    simp (← b .before .ef-type .ensures, b .if3 .taken, ← c .before .sizes-ok .ensures, c .if5 .taken) (search cases)
+
+returns-5 : tie.Need-returns-5
+returns-5 c =
+    let b = c .before .before .before .before in
+    simp (← b .before .ef-type .ensures, b .if3 .taken, ← c .before .sizes-ok .ensures, c .if5 .left) (search cases)
+
+returns-6 : tie.Need-returns-6
+returns-6 c = simp (← c .before .ef-type .ensures, c .if3 .left) (search cases)
+
+pub field-flaw-spec : {M : Type 1} → statement M
+field-flaw-spec =
+    tie.close
+    (tie.spec
+    returns
+    returns-2
+    ef-type-requires
+    returns-3
+    sizes-ok-requires
+    returns-4
+    returns-5
+    returns-6)

@@ -1,0 +1,33 @@
+use Prim.Native.Nat.{_≤_}
+use native.Mathlib.Omega.{arith}
+use lib.ListN.{length}
+use lib.Seq.{length-take-le}
+use borrow.Author.Tests.{lt-ltb, le-ltb}
+use Rattle.flaws.specs.Flaws.{flawOf}
+use borrow.Author.Needs.{needs}
+use Rattle.flaws.proofs.flaw_in.Statement.{statement}
+use Rattle.flaws.proofs.flaw_in.Tie as tie
+
+returns : tie.Need-returns
+unfolding flawOf
+returns c =
+    let a = c .before .args in
+    let fits : a .count ≤ length (a .files) = search needs in
+    rw (length-take-le _ _ fits, le-ltb (a .count) 31 (omega arith))
+
+kind-flaw-requires : tie.Need-kind-flaw-requires
+kind-flaw-requires c κs = search needs
+
+access-flaw-requires : tie.Need-access-flaw-requires
+access-flaw-requires c κs = search needs
+
+returns-2 : tie.Need-returns-2
+unfolding flawOf
+returns-2 c =
+    let a = c .before .before .before .before .before .args in
+    let fits : a .count ≤ length (a .files) = search needs in
+    let few = lt-ltb (a .count) 31 (omega arith) in
+    rw (c .access-flaw .ensures, c .before .kind-flaw .ensures, length-take-le _ _ fits, few)
+
+pub flaw-in-spec : {M : Type 1} → statement M
+flaw-in-spec = tie.close (tie.spec returns kind-flaw-requires access-flaw-requires returns-2)

@@ -1,0 +1,69 @@
+use Prim.Native.Nat.{_-_, _≤_}
+use mathlib.Core.Path.{_≡_, refl, sym, _∙_}
+use native.Mathlib.Omega.{arith}
+use Rattle.lists.specs.Choice.{cases}
+use lib.ListN.{length, take, drop}
+use Rattle.flaws.specs.Flaws.{listed}
+use Rattle.flaws.proofs.Laws.{listed-step, listed-end}
+use borrow.Author.Needs.{needs}
+use Rattle.flaws.proofs.listed_in.Statement.{statement}
+use Rattle.flaws.proofs.listed_in.Tie as tie
+
+abbrev Inv-loop : tie.InvT-loop
+Inv-loop sfi count files i₀ i = (i ≤ count) × (listed sfi (take count files) ≡ listed sfi (drop i (take count files)))
+
+abbrev μ-loop : tie.MeasureT-loop
+μ-loop sfi count files i₀ i = count - i
+
+loop-holds : tie.Need-loop-holds Inv-loop μ-loop
+loop-holds c = (search needs, refl)
+
+mul-e : tie.Need-mul-e Inv-loop μ-loop
+mul-e c = search needs
+
+array-copy-out-e : tie.Need-array-copy-out-e Inv-loop μ-loop
+array-copy-out-e c = search needs
+
+returns : tie.Need-returns Inv-loop μ-loop
+returns c =
+    let l = c .before .before .before .before .loop in
+    let a = c .before .before .before .before .before .args in
+    let fits : a .count ≤ length (a .t2) = search needs in
+    let step = listed-step (a .t2) (a .count) fits (l .i) (a .sfi) (omega arith) in
+    sym (l .inv .1 ∙ step ∙ search cases)
+
+add-i : tie.Need-add-i Inv-loop μ-loop
+add-i c = search needs
+
+loop-less : tie.Need-loop-less Inv-loop μ-loop
+loop-less c = search needs
+
+loop-again : tie.Need-loop-again Inv-loop μ-loop
+loop-again c =
+    let l = c .before .before .before .before .loop in
+    let a = c .before .before .before .before .before .args in
+    let fits : a .count ≤ length (a .t2) = search needs in
+    let step = listed-step (a .t2) (a .count) fits (l .i) (a .sfi) (omega arith) in
+    (omega arith, l .inv .1 ∙ step ∙ search cases)
+
+returns-2 : tie.Need-returns-2 Inv-loop μ-loop
+returns-2 c =
+    let l = c .before .loop in
+    let a = c .before .before .args in
+    let fits : a .count ≤ length (a .t2) = search needs in
+    sym (l .inv .1 ∙ listed-end (a .t2) (a .count) fits (l .i) (a .sfi) (c .loop-test .left))
+
+pub listed-in-spec : {M : Type 1} → statement M
+listed-in-spec =
+    tie.close
+    (tie.spec
+    Inv-loop
+    μ-loop
+    loop-holds
+    mul-e
+    array-copy-out-e
+    returns
+    add-i
+    loop-less
+    loop-again
+    returns-2)

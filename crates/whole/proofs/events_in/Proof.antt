@@ -1,0 +1,72 @@
+use mathlib.Core.Path.{sym, _∙_}
+use denote.Ref.{now}
+use native.Mathlib.Omega.{arith}
+use borrow.Author.Needs.{needs}
+use Rattle.whole.proofs.Counts.{too-short, too-many, torn, other-end, not-loaded, told}
+use Rattle.whole.proofs.events_in.Statement.{statement}
+use Rattle.whole.proofs.events_in.Tie as tie
+
+returns : tie.Need-returns
+returns c = too-short (now (c .before .before .args .register)) (search needs)
+
+sub-n : tie.Need-sub-n
+sub-n c = search needs
+
+returns-2 : tie.Need-returns-2
+returns-2 c = too-many (now (c .before .before .before .args .register)) (search needs) (search needs)
+
+mul-if3 : tie.Need-mul-if3
+mul-if3 c = search needs
+
+add-if3 : tie.Need-add-if3
+add-if3 c = search needs
+
+returns-3 : tie.Need-returns-3
+returns-3 c =
+    torn (now (c .before .before .before .before .args .register)) (search needs) (search needs)
+    (λ e. omega (arith, c .if3 .taken))
+
+ends-as-requires : tie.Need-ends-as-requires
+ends-as-requires c κs = search needs
+
+last-loaded-requires : tie.Need-last-loaded-requires
+last-loaded-requires c κs = search needs
+
+returns-4 : tie.Need-returns-4
+returns-4 c =
+    let u = c .before .before .before in
+    let v = u .before in
+    told (now (v .before .before .before .before .args .register)) (search needs) (search needs) (search needs)
+    (sym (u .ends-as .ensures) ∙ c .before .before .if4 .taken)
+    (sym (c .before .last-loaded .ensures) ∙ c .if5 .taken)
+
+returns-5 : tie.Need-returns-5
+returns-5 c =
+    let u = c .before .before .before in
+    let v = u .before in
+    not-loaded (now (v .before .before .before .before .args .register)) (search needs) (search needs) (search needs)
+    (sym (u .ends-as .ensures) ∙ c .before .before .if4 .taken)
+    (sym (c .before .last-loaded .ensures) ∙ c .if5 .left)
+
+returns-6 : tie.Need-returns-6
+returns-6 c =
+    let u = c .before in
+    let v = u .before in
+    other-end (now (v .before .before .before .before .args .register)) (search needs) (search needs) (search needs)
+    (sym (u .ends-as .ensures) ∙ c .if4 .left)
+
+pub events-in-spec : {M : Type 1} → statement M
+events-in-spec =
+    tie.close
+    (tie.spec
+    returns
+    sub-n
+    returns-2
+    mul-if3
+    add-if3
+    returns-3
+    ends-as-requires
+    last-loaded-requires
+    returns-4
+    returns-5
+    returns-6)
