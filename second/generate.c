@@ -7,11 +7,11 @@
 #include <stdlib.h>
 #include <string.h>
 #include <sys/stat.h>
-#include "second.h"
+#include "generate.h"
 
 /* ---------------------------------------------------------------- chance (splitmix64) */
 
-static u64 seed;
+u64 seed;
 
 static u64 draw(void)
 {
@@ -22,27 +22,27 @@ static u64 draw(void)
 }
 
 /* 0 to n - 1. */
-static u32 below(u32 n)
+u32 below(u32 n)
 {
     return (u32)((draw() >> 32) * n >> 32);
 }
 
-static u32 between(u32 a, u32 b)
+u32 between(u32 a, u32 b)
 {
     return a + below(b - a + 1);
 }
 
-static flag chance(u32 percent)
+flag chance(u32 percent)
 {
     return below(100) < percent;
 }
 
-static u8 any_byte(void)
+u8 any_byte(void)
 {
     return (u8)below(256);
 }
 
-static void fill(u8 *to, u32 n)
+void fill(u8 *to, u32 n)
 {
     while (n-- > 0)
         *to++ = any_byte();
@@ -64,22 +64,20 @@ static void spoil(u8 *bytes, u32 n, u32 a, u32 b)
 
 /* ---------------------------------------------------------------- groupings as a list */
 
-enum { MAX_ITEMS = 2400, POOL = 100000, MAX_ORDER = 60000 };
+enum { MAX_ITEMS = 2400, POOL = 100000 };
 
-struct item { u16 tag; u32 claimed, length, value; flag wide; };
-
-static struct item items[MAX_ITEMS];
-static u32 item_count;
+struct item items[MAX_ITEMS];
+u32 item_count;
 static u8 pool[POOL];
 static u32 pool_used;
 
-static u8 *value_of(const struct item *it)
+u8 *value_of(const struct item *it)
 {
     return pool + it->value;
 }
 
 /* Inserts a grouping; its value is random bytes unless given. */
-static struct item *insert(u32 at, u32 tag, const u8 *value, u32 length)
+struct item *insert(u32 at, u32 tag, const u8 *value, u32 length)
 {
     struct item *it = &items[at];
     if (item_count == MAX_ITEMS || pool_used + length > POOL) {
@@ -100,7 +98,7 @@ static struct item *insert(u32 at, u32 tag, const u8 *value, u32 length)
     return it;
 }
 
-static void append(u32 tag, const u8 *value, u32 length)
+void append(u32 tag, const u8 *value, u32 length)
 {
     insert(item_count, tag, value, length);
 }
@@ -111,7 +109,7 @@ static void drop(u32 at)
     memmove(&items[at], &items[at + 1], (item_count - at) * sizeof items[0]);
 }
 
-static u32 find(u16 tag)
+u32 find(u16 tag)
 {
     u32 i;
     for (i = 0; i < item_count && items[i].tag != tag; i++)
@@ -144,7 +142,7 @@ static u32 header_of(const struct item *it, u8 *to)
 }
 
 /* The order's bytes. */
-static u32 encode(u8 *to)
+u32 encode(u8 *to)
 {
     u32 i, n = 0;
     for (i = 0; i < item_count; i++) {
@@ -157,12 +155,10 @@ static u32 encode(u8 *to)
 
 /* ---------------------------------------------------------------- tables that pass */
 
-enum total { ANY_TOTAL, EXACT_TOTAL, OVER_TOTAL };
+u8 table[TABLE * DESCRIPTOR];
+u32 table_count, table_total;
 
-static u8 table[TABLE * DESCRIPTOR];
-static u32 table_count, table_total;
-
-static u8 *descriptor(u32 i)
+u8 *descriptor(u32 i)
 {
     return table + i * DESCRIPTOR;
 }
@@ -366,14 +362,14 @@ static void append_records(u32 percent)
     }
 }
 
-static void clear_list(void)
+void clear_list(void)
 {
     item_count = 0;
     pool_used = 0;
 }
 
 /* A complete order over a random table. */
-static void make_order(u32 files, enum total total, u32 percent)
+void make_order(u32 files, enum total total, u32 percent)
 {
     clear_list();
     make_table(files, total, chance(50) ? 100 : 2000);
@@ -383,7 +379,7 @@ static void make_order(u32 files, enum total total, u32 percent)
 }
 
 /* A complete order of exactly this many bytes. */
-static void make_long_order(u32 target)
+void make_long_order(u32 target)
 {
     static u8 bytes[MAX_ORDER];
     u32 sfi, nn, first, i, size, most;
@@ -414,7 +410,7 @@ static void make_long_order(u32 target)
 /* ---------------------------------------------------------------- damage to an order */
 
 /* One field of one descriptor; each turn aims at one rule of the file table. */
-static void damage_table(u32 turn)
+void damage_table(u32 turn)
 {
     static const u8 bad_types[6] = { 0x00, 0x03, 0x05, 0x0A, 0x10, 0xFF }, bad_keys[4] = { 0, 4, 4, 255 };
     u32 at = find(0x3100), count = items[at].length / DESCRIPTOR;
@@ -449,7 +445,7 @@ static void damage_table(u32 turn)
 }
 
 /* The DataRef of a simulated counter, from a table that has one: its number at an edge, or SFI 0 on both sides. */
-static void damage_reference(u32 turn)
+void damage_reference(u32 turn)
 {
     u32 at = find(0x3100), i, j;
     u8 *t = value_of(&items[at]);
@@ -465,7 +461,7 @@ static void damage_reference(u32 turn)
         }
 }
 
-static void damage_length(u32 turn)
+void damage_length(u32 turn)
 {
     static const u16 tags[9] = { 0x2000, 0x2100, 0x2200, 0x3800, 0x4101, 0x4102, 0x4103, 0x4104, 0x3100 };
     static const u16 table_lengths[4] = { 576, 0, 17, 559 };
@@ -483,7 +479,7 @@ static void damage_length(u32 turn)
         resize(at, chance(50) ? 0 : between(65, 70));
 }
 
-static void damage_startup(u32 turn)
+void damage_startup(u32 turn)
 {
     u8 *v = value_of(&items[find(0x2100)]);
     if (find(0x2100) == item_count || items[find(0x2100)].length != 7)
@@ -524,7 +520,7 @@ static void append_simulated(void)
 }
 
 /* Last of all an 'ssnn' that rule d, e or f refuses, that stays open, or that passes at an edge. */
-static void damage_records(u32 turn)
+void damage_records(u32 turn)
 {
     const u8 *d = last_writable();
     u32 first = (u32)d[D_SFI] << 8 | (d[D_EF] != BINARY), at = drop_from(first), most = record_size(d), n = below(4);
@@ -555,7 +551,7 @@ static u32 query_tag(void)
 }
 
 /* One thing wrong with one grouping. */
-static void damage_grouping(u32 turn)
+void damage_grouping(u32 turn)
 {
     u32 at = below(item_count), other = below(item_count), few = below(4);
     struct item spare;
@@ -607,7 +603,7 @@ static void add_event(u8 kind, u8 p1, const u8 *data, u32 n)
     events++;
 }
 
-static void make_chip_record(u8 *chip, flag low)
+void make_chip_record(u8 *chip, flag low)
 {
     fill(chip, 36);
     chip[36] = (u8)(low ? below(6) : chance(20) ? 6 : chance(50) ? between(6, 60) : between(6, 255));
@@ -947,7 +943,7 @@ static void add_epilogue(void)
 
 /* ---------------------------------------------------------------- kinds of session */
 
-static enum total any_total(void)
+enum total any_total(void)
 {
     return chance(50) ? ANY_TOTAL : chance(70) ? EXACT_TOTAL : OVER_TOTAL;
 }
@@ -957,7 +953,7 @@ static u32 any_files(void)
     return chance(15) ? 30 : chance(50) ? between(1, 5) : between(1, 30);
 }
 
-static u32 any_percent(void)
+u32 any_percent(void)
 {
     return chance(20) ? 0 : chance(30) ? 1 : between(1, 10);
 }
@@ -1204,7 +1200,7 @@ static u32 make_job(u32 i)
 
 /* ---------------------------------------------------------------- coverage */
 
-static const char *const outcome_texts[OUTCOME_COUNT] = {
+const char *const outcome_texts[OUTCOME_COUNT] = {
 #define OUTCOME_TEXT(name, word, text) text,
     OUTCOMES(OUTCOME_TEXT)
 #undef OUTCOME_TEXT
@@ -1223,9 +1219,9 @@ static struct {
     u32 in_5a[9][3];            /* events at '07' in '5A', by kind (0: refused) and by what is open */
 } seen;
 
-static u32 missing;
+u32 missing;
 
-static void report(const char *what, u32 count, flag wanted)
+void report(const char *what, u32 count, flag wanted)
 {
     printf("  %-46s %9u%s\n", what, count, wanted && count == 0 ? "   MISSING" : "");
     missing += wanted && count == 0;

@@ -1,5 +1,6 @@
 /* second.c: an independent second program for document 01 ("the paper"): the card's model and the modes
  * replay, trace, cut and groupings. No heap and no library but read, write, memcpy, memset, memcmp.
+ * (The mode lot, which works with files, is lot.c.)
  *
  * Decided here, where the paper and its readings leave a point open:
  *  - No open value is open_tag 0. "Selected" is a truth value, so sound asks nothing of its form.
@@ -878,20 +879,44 @@ struct part shown(const struct card *c, const u8 *area, u32 area_length, u8 sfi,
 
 /* ---------------------------------------------------------------- the order and its cutting */
 
-/* After '9484', walked uncut by a to h on this chip. (P1 '00': a query in an order never passes.) */
-enum outcome judge_order(const u8 *chip, const u8 *order, u32 length)
+/* After '9484', walked uncut by a to h on this chip: why and where it stops. (P1 '00': a query never passes.) */
+struct stop walk_order(const u8 *chip, const u8 *order, u32 length)
 {
     struct card c;
     u8 bytes[ANSWER];
     struct answer a = { bytes, 0 };
     struct command m = { order, length, 0, 0x00 };
-    enum outcome o;
+    struct stop s = { PASSED, 0, 0, 0 };
     (void)fresh(&c, chip, CHIP);
     c.gp = 0x07;
     c.selected = 1;
     take_row(&c, 1);
-    o = walk(&c, 0, &m, &a);
-    return o == PASSED ? judge_end(&c) : o;
+    while (s.why == PASSED && m.at < m.length) {
+        s.place = m.at;
+        s.why = take_grouping(&c, 0, &m, &a);
+    }
+    if (s.why == PASSED)
+        s.why = judge_end(&c);
+    if (s.why == END_MISSING)
+        s.place = length;
+    if (length - s.place >= 2) {
+        s.tagged = 1;
+        s.tag = (u16)(order[s.place] << 8 | order[s.place + 1]);
+    }
+    if (s.why >= T_DF_SFI && s.why <= T_TOTAL)      /* uncut, a descriptor's 18 bytes came together */
+        s.place = m.at - DESCRIPTOR;
+    return s;
+}
+
+/* The card's word; '6A80' for each query in an order. */
+u16 stop_word(const struct stop *s)
+{
+    return s->why == B_P1 ? 0x6A80 : word_of(s->why);
+}
+
+enum outcome judge_order(const u8 *chip, const u8 *order, u32 length)
+{
+    return walk_order(chip, order, length).why;
 }
 
 /* The command being packed; without room its records are only counted. */
@@ -1023,17 +1048,24 @@ static void write_all(int file, const u8 *bytes, u32 n)
     }
 }
 
-static void flush(void)
+/* Writes out what is gathered; whether all output so far was written. */
+flag flush(void)
 {
     write_all(1, output, output_used);
     output_used = 0;
+    return !output_failed;
+}
+
+flag output_good(void)
+{
+    return !output_failed;
 }
 
 /* Room for n more bytes of output (n at most OUTPUT). */
-static u8 *output_room(u32 n)
+u8 *output_room(u32 n)
 {
     if (OUTPUT - output_used < n)
-        flush();
+        (void)flush();
     output_used += n;
     return output + output_used - n;
 }
@@ -1051,43 +1083,45 @@ static u32 read_full(u8 *to, u32 n)
     return have;
 }
 
-static void put_char(char c)
+void put_char(char c)
 {
     *output_room(1) = (u8)c;
 }
 
-static void put_text(const char *text)
+void put_text(const char *text)
 {
     for (; *text != 0; text++)
         put_char(*text);
 }
 
-static void decimal(u8 *to, u32 count, u32 value)
+void decimal(u8 *to, u32 count, u32 value)
 {
     for (; count > 0; value /= 10)
         to[--count] = (u8)('0' + value % 10);
 }
 
-static void hexadecimal(u8 *to, u32 count, u32 value)
+void hexadecimal(u8 *to, u32 count, u32 value)
 {
     for (; count > 0; value >>= 4)
         to[--count] = (u8)"0123456789ABCDEF"[value & 15];
 }
 
-static void put_hex(u32 count, u32 value)
+void put_hex(u32 count, u32 value)
 {
     hexadecimal(output_room(count), count, value);
 }
 
-static void put_decimal(u32 value)
+void put_decimal(u64 value)
 {
-    u32 count = 1, rest;
-    for (rest = value; rest >= 10; rest /= 10)
-        count++;
-    decimal(output_room(count), count, value);
+    u8 digits[20];
+    u32 at = sizeof digits;
+    do
+        digits[--at] = (u8)('0' + value % 10);
+    while ((value /= 10) > 0);
+    memcpy(output_room((u32)sizeof digits - at), digits + at, sizeof digits - at);
 }
 
-static void put_bytes(const u8 *bytes, u32 n)
+void put_bytes(const u8 *bytes, u32 n)
 {
     if (n == 0)
         put_char('-');
@@ -1097,13 +1131,10 @@ static void put_bytes(const u8 *bytes, u32 n)
 
 static int finish(void)
 {
-    flush();
-    return output_failed ? 1 : 0;
+    return flush() ? 0 : 1;
 }
 
 /* ---------------------------------------------------------------- replay, trace */
-
-enum { LINE = 26 };
 
 static u8 area[AREA];
 static u8 input[RECORDS_AT_ONCE * RECORD];
@@ -1126,6 +1157,14 @@ void replay_line(u8 *line, u64 events, const u8 *record, u32 number, u16 word, c
     hexadecimal(line + 20, 2, c->internal);
     decimal(line + 23, 2, taken(c));
     line[LINE - 1] = '\n';
+}
+
+/* END, number of events */
+void replay_end(u8 *line, u64 events)
+{
+    memcpy(line, "END ", 4);
+    decimal(line + 4, 5, (u32)(events % 100000));
+    line[LAST_LINE - 1] = '\n';
 }
 
 static u64 replay_records(struct card *c)
@@ -1152,9 +1191,7 @@ static int replay(void)
     u32 length = read_full(chip, CHIP);
     if (fresh(&c, chip, length) == 0)
         events = replay_records(&c);
-    put_text("END ");
-    decimal(output_room(5), 5, (u32)(events % 100000));
-    put_char('\n');
+    replay_end(output_room(LAST_LINE), events);
     return finish();
 }
 
@@ -1249,9 +1286,6 @@ static int trace(void)
 
 /* ---------------------------------------------------------------- cut, groupings */
 
-/* More than an order of 8,192 bytes can fill: a closed command holds at least 187 bytes. */
-enum { CUT_RECORDS = 64 };
-
 static void say(const char *text)
 {
     u32 n = 0;
@@ -1269,9 +1303,8 @@ static int cut_refused(u32 number)
     return 1;
 }
 
-static void put_event(u8 kind, u8 p1, const u8 *data, u8 n)
+static void set_record(u8 *r, u8 kind, u8 p1, const u8 *data, u8 n)
 {
-    u8 *r = output_room(RECORD);
     memset(r, 0, RECORD);
     r[0] = kind;
     r[1] = p1;
@@ -1279,20 +1312,30 @@ static void put_event(u8 kind, u8 p1, const u8 *data, u8 n)
     memcpy(r + 4, data, n);
 }
 
-static int cut(void)
+/* A job's session: INSTALL '0C', SELECT and the writer's records, into room for SESSION of them. */
+struct ran cut_job(const u8 *job, u32 length, u8 *room)
 {
     static const u8 names[33] = {
         8, 0x31, 0x54, 0x49, 0x43, 0x2E, 0x50, 0x4B, 0x47, 8, 0x31, 0x54, 0x49, 0x43, 0x2E, 0x4D, 0x4F, 0x44,
         8, 0x31, 0x54, 0x49, 0x43, 0x2E, 0x49, 0x43, 0x41, 0x01, 0x00, 0x02, 0xC9, 0x00, 0x00
     };
-    static u8 job[CHIP + ORDER + 1], room[CUT_RECORDS * RECORD];
-    u32 length = read_full(job, sizeof job), order = length < CHIP ? 0 : length - CHIP;
-    struct ran done = write_order(job, length - order, job + CHIP, order, room, sizeof room);
+    u32 order = length < CHIP ? 0 : length - CHIP;
+    struct ran done = write_order(job, length - order, job + CHIP, order, room + 2 * RECORD, (SESSION - 2) * RECORD);
+    if (done.number != 0)
+        return done;
+    set_record(room, INSTALL, 0x0C, names, 33);
+    set_record(room + RECORD, SELECT, 0x00, names + 19, 8);
+    done.records += 2;
+    return done;
+}
+
+static int cut(void)
+{
+    static u8 job[JOB + 1], room[SESSION * RECORD];
+    struct ran done = cut_job(job, read_full(job, sizeof job), room);
     if (done.number != 0)
         return cut_refused(done.number);
     memcpy(output_room(CHIP), job, CHIP);
-    put_event(INSTALL, 0x0C, names, 33);
-    put_event(SELECT, 0x00, names + 19, 8);
     memcpy(output_room(done.records * RECORD), room, done.records * RECORD);
     return finish();
 }
@@ -1351,6 +1394,41 @@ int run_mode(const char *mode)
     return -1;
 }
 
+#ifndef FREESTANDING
+/* These modes work with files: lot.c and jobs.c give them. A build of this file without those has none of them. */
+__attribute__((weak)) int lot(int argc, char **argv)
+{
+    (void)argc;
+    (void)argv;
+    return -1;
+}
+
+__attribute__((weak)) int lotjobs(int argc, char **argv)
+{
+    (void)argc;
+    (void)argv;
+    return -1;
+}
+
+__attribute__((weak)) int realjobs(int argc, char **argv)
+{
+    (void)argc;
+    (void)argv;
+    return -1;
+}
+
+static int file_mode(const char *mode, int argc, char **argv)
+{
+    if (same_text(mode, "lot"))
+        return lot(argc, argv);
+    if (same_text(mode, "lotjobs"))
+        return lotjobs(argc, argv);
+    if (same_text(mode, "realjobs"))
+        return realjobs(argc, argv);
+    return -1;
+}
+#endif
+
 int main(int argc, char **argv)
 {
     const char *mode = argc > 1 ? argv[1] : "";
@@ -1358,6 +1436,8 @@ int main(int argc, char **argv)
     if (status >= 0)
         return status;
 #ifndef FREESTANDING
+    if ((status = file_mode(mode, argc, argv)) >= 0)
+        return status;
     if (same_text(mode, "generate"))
         return generate(argc, argv);
     if (same_text(mode, "big"))
@@ -1365,7 +1445,9 @@ int main(int argc, char **argv)
     if (same_text(mode, "selftest"))
         return selftest();
 #endif
-    say("usage: second replay | trace | cut | groupings | generate SEED COUNT [DIR] | big SEED EVENTS | selftest\n");
+    say("usage: second replay | trace | cut | groupings | lot [-0] [--resume] [--part K/N] OUT |\n"
+        "       generate SEED COUNT [DIR] | big SEED EVENTS | lotjobs SEED COUNT FOLDER |\n"
+        "       realjobs SEED COUNT FOLDER [text] | selftest\n");
     return 2;
 }
 

@@ -1,4 +1,4 @@
-/* second.h: what the model (second.c) shows to the generator (generate.c) and the tests (tests.c).
+/* second.h: what the model (second.c) shows to lot.c, the generators (generate.c, jobs.c) and the tests (tests.c).
  * "The paper" is document 01; the decisions beyond it are at the top of second.c. */
 #ifndef SECOND_H
 #define SECOND_H
@@ -16,6 +16,10 @@ enum {
     DATA = 255,         /* its data bytes */
     CHIP = 40,          /* chip record */
     ORDER = 8192,       /* longest order */
+    JOB = CHIP + ORDER, /* longest job */
+    SESSION = 66,       /* more records than a job can fill: a closed command holds at least 187 bytes */
+    LINE = 26,          /* replay's line for an event, */
+    LAST_LINE = 10,     /* and its last */
     TABLE = 31,         /* descriptors at most */
     DESCRIPTOR = 18,    /* bytes of one */
     SECRET = 64,        /* bytes of a secret at most */
@@ -135,6 +139,7 @@ struct card {
 struct answer { u8 *bytes; u32 length; };
 struct step { u32 number; u16 word; u32 answer_length; };
 struct ran { u32 number, records; };
+struct stop { enum outcome why; u32 place; flag tagged; u16 tag; };     /* where an order's walk stops */
 struct part { u32 number; const u8 *bytes; u32 length; };
 struct header { u16 tag; u32 size, length; };
 struct reader { const u8 *order; u32 length, at; };
@@ -153,6 +158,8 @@ struct ran run(struct card *c, u8 *area, u32 area_length, const u8 *session, u32
 struct part shown(const struct card *c, const u8 *area, u32 area_length, u8 sfi, u8 record);
 enum outcome judge_descriptor(const struct card *c, u32 before, const u8 *d);
 u32 file_size(const u8 *d);
+struct stop walk_order(const u8 *chip, const u8 *order, u32 length);
+u16 stop_word(const struct stop *s);
 enum outcome judge_order(const u8 *chip, const u8 *order, u32 length);
 struct ran write_order(const u8 *chip, u32 chip_length, const u8 *order, u32 length, u8 *room, u32 room_length);
 enum outcome read_header(const u8 *data, u32 length, struct header *h);
@@ -160,8 +167,38 @@ flag spans(u16 tag);
 flag rows_agree(void);
 enum pulled pull(struct reader *r, struct grouping *g);
 void replay_line(u8 *line, u64 events, const u8 *record, u32 number, u16 word, const struct card *c);
+void replay_end(u8 *line, u64 events);
+struct ran cut_job(const u8 *job, u32 length, u8 *room);
+
+/* Standard output, gathered. */
+u8 *output_room(u32 n);
+flag flush(void);
+flag output_good(void);
+void put_char(char c);
+void put_text(const char *text);
+void put_hex(u32 count, u32 value);
+void put_decimal(u64 value);
+void put_bytes(const u8 *bytes, u32 n);
+void decimal(u8 *to, u32 count, u32 value);
+void hexadecimal(u8 *to, u32 count, u32 value);
+
+/* A job as text (lot.c). The text comes in parts of any size; the first JOB + 1 bytes that it gives are kept. */
+struct text {
+    u64 at;                     /* bytes of the text read */
+    u64 line, from;             /* the line being read, and where its first column is */
+    u32 state, high;
+    u64 length;                 /* bytes given */
+    u32 kind;                   /* of the fault: 1, 2; 0: none */
+    u64 fault_at, fault_line, fault_column;
+};
+void begin_text(struct text *t);
+flag read_text(struct text *t, const u8 *bytes, u32 n, u8 *job);
+flag end_text(struct text *t);
 
 int run_mode(const char *mode);
+int lot(int argc, char **argv);
+int lotjobs(int argc, char **argv);
+int realjobs(int argc, char **argv);
 int generate(int argc, char **argv);
 int big(int argc, char **argv);
 int selftest(void);

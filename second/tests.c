@@ -1,8 +1,11 @@
 /* tests.c: the second program's own tests; `second selftest`. Hexadecimal texts may hold blanks. */
 #define _POSIX_C_SOURCE 200809L
+#include <dirent.h>
+#include <fcntl.h>
 #include <stdio.h>
 #include <stdlib.h>
 #include <string.h>
+#include <sys/stat.h>
 #include <sys/wait.h>
 #include <unistd.h>
 #include "second.h"
@@ -944,6 +947,393 @@ static void reader_endings(void)
     expect(pull(&r, &g) == NOT_WHOLE && r.at == 0, "reader: FFFF");
 }
 
+/* ---------------------------------------------------------------- where an order's walk stops */
+
+/* Place, tag (0x10000: none) and word. */
+static flag stops(u8 capacity, const char *hex, u32 place, u32 tag, u16 word)
+{
+    static u8 order[ORDER];
+    u8 chip[CHIP];
+    u32 n = bytes_of(order, hex);
+    struct stop s;
+    make_chip(chip, capacity);
+    s = walk_order(chip, order, n);
+    return s.place == place && (s.tagged ? s.tag : 0x10000) == tag && stop_word(&s) == word;
+}
+
+static void stopping_places(void)
+{
+    expect(stops(20, "", 0, 0x10000, 0x6985), "stop: an empty order");
+    expect(stops(20, G2000, 11, 0x10000, 0x6985), "stop: rows missing at the end");
+    expect(stops(20, G2000 G2100 G3100 G3800 "4101 01 A1 4102 01 A2", 127, 0x10000, 0x6985), "stop: 4103 missing");
+    expect(stops(20, ORDER_HEX "00", 150, 0x10000, 0x6A80), "stop: one byte left");
+    expect(stops(20, ORDER_HEX "1E01", 150, 0x1E01, 0x6A80), "stop: two bytes left");
+    expect(stops(20, ORDER_HEX "1E01 FF", 150, 0x1E01, 0x6A80), "stop: three bytes left");
+    expect(stops(20, ORDER_HEX "1E01 FF00", 150, 0x1E01, 0x6A80), "stop: four bytes left");
+    expect(stops(20, ORDER_HEX "1E01 FFFFFF", 150, 0x1E01, 0x6A80), "stop: FFFF");
+    expect(stops(20, "84F200", 0, 0x84F2, 0x6A80), "stop: a query alone");
+    expect(stops(20, "8185FF0000" ORDER_HEX, 0, 0x8185, 0x6A80), "stop: a query first");
+    expect(stops(20, G2000 "9484 01 00", 11, 0x9484, 0x6A80), "stop: a query in the midst");
+    expect(stops(20, G2000 "8484 00", 11, 0x8484, 0x6A88), "stop: an unknown tag");
+    expect(stops(20, G2000 G3100, 11, 0x3100, 0x6985), "stop: a row not due");
+    expect(stops(20, G2000 "2100 08", 11, 0x2100, 0x6700), "stop: a length");
+    expect(stops(20, G2000 "2100 07 1E", 11, 0x2100, 0x6A80), "stop: cut short");
+    expect(stops(5, G2000 G2100, 11, 0x2100, 0x6A84), "stop: capacity");
+    expect(stops(20, G2000 G2100 "3100 36 " DF COUNTERS_11 SIMULATED_4, 21 + 3 + 36, 0x3100, 0x6A80),
+           "stop: a descriptor");
+    expect(stops(20, G2000 G2100 "3100 FF0024 " COUNTERS_11 DF, 21 + 5, 0x3100, 0x6A80),
+           "stop: the first descriptor");
+    expect(stops(20, G2000 G2100 "3100 36 " DF BINARY_300 "2005 0C 04 01 10 00 00000000 00000000 0000 00 ",
+                 21 + 3 + 36, 0x3100, 0x6A84), "stop: the size total");
+    expect(stops(20, G2000 G2100 "3100 36 " DF LINEAR_29_3, 21, 0x3100, 0x6985), "stop: 3100 open");
+    expect(stops(20, G2000 G2100 "3100 36", 21, 0x3100, 0x6985), "stop: 3100 without a byte");
+    expect(stops(20, G2000 G2100 "3100 36 " DF "FFFF FF FF", 21, 0x3100, 0x6985), "stop: 3100 open in a descriptor");
+    expect(stops(20, ORDER_HEX "0A00 00", 150, 0x0A00, 0x6985), "stop: not rising");
+    expect(stops(20, G2000 G2100 G3100 G3800 KEYS "0801 00 0A00 05 01020304", 134, 0x0A00, 0x6985),
+           "stop: ssnn open");
+    expect(stops(20, G2000 G2100 G3100 G3800 KEYS "0801 1E 00", 131, 0x0801, 0x6700), "stop: ssnn too long");
+}
+
+/* ---------------------------------------------------------------- jobs as text */
+
+struct text_case { const char *text; u32 n; const char *hex; u32 kind, line, column; };
+
+#define TEXT(text, hex) { text, sizeof text - 1, hex, 0, 0, 0 }
+#define WRONG_TEXT(text, kind, line, column) { text, sizeof text - 1, 0, kind, line, column }
+
+static const struct text_case text_cases[] = {
+    TEXT("", ""), TEXT("\xEF\xBB\xBF", ""), TEXT("#", ""), TEXT("# 12\r34", ""), TEXT(" \t\r\n", ""),
+    TEXT("0f F0aB", "0FF0AB"), TEXT("12345678", "12345678"), TEXT("12\t34\r\n56\n\n78 ", "12345678"),
+    TEXT("12#34\n56", "1256"), TEXT("12 # 3\r4 \xEF zz\r\n56#", "1256"), TEXT("\xEF\xBB\xBF" "12", "12"),
+    TEXT("\xEF\xBB\xBF\n12", "12"), TEXT("\xEF\xBB\xBF# 1\n12", "12"), TEXT("# \0 \n12", "12"),
+    TEXT("AF\raf", "AFAF"),
+    WRONG_TEXT("G1", 1, 1, 1), WRONG_TEXT("1G", 1, 1, 2), WRONG_TEXT("12 x", 1, 1, 4), WRONG_TEXT("0x12", 1, 1, 2),
+    WRONG_TEXT("12\n\n 34 5:", 1, 3, 6), WRONG_TEXT("12\0" "34", 1, 1, 3), WRONG_TEXT("1\0", 1, 1, 2),
+    WRONG_TEXT("12\v34", 1, 1, 3), WRONG_TEXT("1/", 1, 1, 2), WRONG_TEXT("@1", 1, 1, 1), WRONG_TEXT("1`", 1, 1, 2),
+    WRONG_TEXT("12;34", 1, 1, 3), WRONG_TEXT("12\r\r\n\r-", 1, 2, 2),
+    WRONG_TEXT("1", 2, 1, 1), WRONG_TEXT("123", 2, 1, 3), WRONG_TEXT("12 3 4", 2, 1, 4), WRONG_TEXT("1\t2", 2, 1, 1),
+    WRONG_TEXT("12\n3\r\n", 2, 2, 1), WRONG_TEXT("12\n  3\n4", 2, 2, 3), WRONG_TEXT("12 3#4", 2, 1, 4),
+    WRONG_TEXT("# a\n# b\n1", 2, 3, 1), WRONG_TEXT("1 G", 2, 1, 1), WRONG_TEXT("1 \xEF", 2, 1, 1),
+    WRONG_TEXT("\xEF", 1, 1, 1), WRONG_TEXT("\xEF\xBB", 1, 1, 1), WRONG_TEXT("\xEF\xBB\xBE" "12", 1, 1, 1),
+    WRONG_TEXT("\xEF\n12", 1, 1, 1), WRONG_TEXT("\xEF\xBB" "12", 1, 1, 1), WRONG_TEXT("\xFF\xFE", 1, 1, 1),
+    WRONG_TEXT(" \xEF\xBB\xBF", 1, 1, 2), WRONG_TEXT("\xEF\xBB\xBF\xEF\xBB\xBF", 1, 1, 1),
+    WRONG_TEXT("\xEF\xBB\xBF" "1", 2, 1, 1), WRONG_TEXT("\xEF\xBB\xBF" "12 3x", 1, 1, 5),
+    WRONG_TEXT("\xEF\xBB\xBF\n12 3 ", 2, 2, 4), WRONG_TEXT("12#\n\xEF\xBB\xBF", 1, 2, 1),
+};
+
+/* The text in parts of this many bytes. */
+static flag reads_as(const struct text_case *c, u32 part)
+{
+    u8 bytes[JOB + 1];
+    struct text t;
+    u32 at = 0;
+    flag good = 1;
+    begin_text(&t);
+    while (good && at < c->n) {
+        u32 n = c->n - at < part ? c->n - at : part;
+        good = read_text(&t, (const u8 *)c->text + at, n, bytes);
+        at += n;
+    }
+    good = good && end_text(&t);
+    if (c->kind == 0)
+        return good && t.kind == 0 && same(bytes, (u32)t.length, c->hex);
+    return !good && t.kind == c->kind && t.fault_line == c->line && t.fault_column == c->column;
+}
+
+static void texts(void)
+{
+    static u8 many[3 * JOB + 10], bytes[JOB + 1];
+    struct text t;
+    u32 i, part;
+    for (i = 0; i < sizeof text_cases / sizeof text_cases[0]; i++)
+        for (part = 1; part <= text_cases[i].n + 1; part++)
+            expect(reads_as(&text_cases[i], part), text_cases[i].text);
+    for (i = 0; i < JOB + 3; i++)
+        memcpy(many + 3 * i, "A5\n", 3);
+    begin_text(&t);
+    expect(read_text(&t, many, 3 * JOB, bytes) && t.length == JOB && bytes[JOB - 1] == 0xA5, "text: 8,232 bytes");
+    expect(read_text(&t, many, 9, bytes) && t.length == JOB + 3 && bytes[JOB] == 0xA5, "text: more are only counted");
+    expect(!read_text(&t, many + 1, 2, bytes) && t.kind == 2 && t.fault_line == JOB + 4 && t.fault_column == 1,
+           "text: a fault behind them");
+}
+
+/* ---------------------------------------------------------------- lots */
+
+static char folder[] = "/tmp/second-tests-XXXXXX";
+
+static void write_file(const char *name, const void *bytes, u32 n)
+{
+    int file = open(name, O_WRONLY | O_CREAT | O_TRUNC, 0666);
+    expect(file >= 0 && write(file, bytes, n) == (long)n && close(file) == 0, "a test's file");
+}
+
+static flag file_is(const char *name, const char *text)
+{
+    char bytes[2000];
+    int file = open(name, O_RDONLY);
+    long n = file < 0 ? -1 : (long)read(file, bytes, sizeof bytes);
+    if (file >= 0)
+        close(file);
+    return n == (long)strlen(text) && memcmp(bytes, text, (size_t)n) == 0;
+}
+
+static flag stands(const char *name)
+{
+    return access(name, F_OK) == 0;
+}
+
+/* Runs `second lot` with these options (a blank between) on these names. */
+static void run_lot(const char *options, const char *names, u32 n, struct mode_run *m, const char *to)
+{
+    char words[200], *argv[12];
+    int argc = 2, out;
+    FILE *from = tmpfile(), *captured = tmpfile();
+    pid_t child;
+    if (from == NULL || captured == NULL) {
+        perror("tmpfile");
+        exit(1);
+    }
+    fwrite(names, 1, n, from);
+    fflush(from);
+    rewind(from);
+    fflush(stdout);
+    out = to ? open(to, O_WRONLY) : fileno(captured);
+    snprintf(words, sizeof words, "%s", options);
+    for (argv[2] = strtok(words, " "); argv[argc] != NULL; argv[argc] = strtok(NULL, " "))
+        argc++;
+    child = fork();
+    if (child == 0) {
+        dup2(fileno(from), 0);
+        dup2(out, 1);
+        if (freopen("/dev/null", "w", stderr) == NULL)
+            _exit(99);
+        _exit(lot(argc, argv));
+    }
+    waitpid(child, &m->status, 0);
+    m->status = WIFEXITED(m->status) ? WEXITSTATUS(m->status) : 100;
+    rewind(captured);
+    m->length = (u32)fread(m->bytes, 1, sizeof m->bytes, captured);
+    fclose(from);
+    fclose(captured);
+    if (to)
+        close(out);
+}
+
+/* These lines and status 0. */
+static flag lot_writes(const char *options, const char *names, const char *lines)
+{
+    static struct mode_run m;
+    run_lot(options, names, (u32)strlen(names), &m, 0);
+    if (m.status == 0 && wrote(&m, lines))
+        return 1;
+    printf("lot wrote (status %d):\n%.*s", m.status, (int)m.length, (const char *)m.bytes);
+    return 0;
+}
+
+#define REGISTER_TEXT "00001 01 00 9000 07 CC 00\n00002 03 00 9000 07 CC 00\n00003 02 00 9000 07 CC 01\n" \
+                      "00004 02 00 9000 07 A5 11\nEND 00004\n"
+#define LOADED "\t0\t07\tA5\t4\t0102030405060708\t-\t-\t-\n"
+#define PASSED_OVER "\t0\t07\tA5\t4\t-\t-\t-\t-\n"
+#define REFUSED(number) "\t" number "\t-\t-\t0\t-\t-\t-\t-\n"
+#define UNDONE "\t-\t-\t-\t0\t-\t-\t-\t-\n"
+
+/* good.job, good.text.txt and jobs that are refused, each in its way. */
+static void make_lot_files(void)
+{
+    static u8 bytes[JOB + 10];
+    static char text[4 * JOB];
+    u32 n, i, at = 3;
+    make_chip(bytes, 20);
+    n = CHIP + bytes_of(bytes + CHIP, ORDER_HEX);
+    write_file("good.job", bytes, n);
+    write_file("plain", bytes, n);
+    write_file("a.b.c", bytes, n);
+    write_file("odd\tna\x7Fme\x01\xC3.job", bytes, n);
+    memcpy(text, "\xEF\xBB\xBF", 3);
+    for (i = 0; i < n; i++)
+        at += (u32)sprintf(text + at, i % 2 == 0 ? "%02X " : "%02x # x\r\n", bytes[i]);
+    write_file("good.text.txt", text, at);
+    write_file(".txt", text, at);
+    write_file("GOOD.TXT", text, at);                   /* by its name no text */
+    text[at - 6] = 'g';
+    write_file("wrong.txt", text, at);
+    write_file("half.txt", "12 3", 4);
+    write_file("short.job", bytes, CHIP - 1);
+    write_file("none.job", bytes, 0);
+    write_file("empty.job", bytes, CHIP);
+    write_file("exact.job", bytes, JOB);
+    write_file("long.job", bytes, JOB + 1);
+    write_file("longer.job", bytes, JOB + 10);
+    bytes[39] = 1;
+    write_file("chip.job", bytes, JOB + 1);
+}
+
+static void lot_lines(void)
+{
+    expect(lot_writes("out", "", "END\t0\t0\t0\t0\n"), "lot: no names");
+    expect(lot_writes("out", "good.job\n", "good.job" LOADED "END\t1\t1\t0\t0\n"), "lot: loaded");
+    expect(file_is("out/good.register", REGISTER_TEXT) && !stands("out/.good.register.part"), "lot: its register");
+    expect(lot_writes("out", "\n\ngood.text.txt\n\n./plain\n../" "a.b.c", "good.text.txt" LOADED "./plain" LOADED
+                      "../a.b.c" UNDONE "END\t3\t2\t0\t1\n"), "lot: empty names, a last name without its end");
+    expect(file_is("out/good.text.register", REGISTER_TEXT) && file_is("out/plain.register", REGISTER_TEXT),
+           "lot: BASE");
+    expect(lot_writes("out", "a.b.c\n.txt\n", "a.b.c" LOADED ".txt" LOADED "END\t2\t2\t0\t0\n") &&
+           stands("out/a.b.register") && stands("out/.register"), "lot: the last extension only");
+    expect(lot_writes("out", "odd\tna\x7Fme\x01\xC3.job", "odd?na?me?\xC3.job" LOADED "END\t1\t1\t0\t0\n"),
+           "lot: a name as it is shown");
+    expect(stands("out/odd\tna\x7Fme\x01\xC3.register"), "lot: and as it is");
+    expect(lot_writes("out", "GOOD.TXT\nwrong.txt\nhalf.txt\n", "GOOD.TXT" REFUSED("7")
+                      "wrong.txt\t-\t-\t-\t0\t-\t95:6\t-\t-\nhalf.txt\t-\t-\t-\t0\t-\t1:4\t-\t-\n"
+                      "END\t3\t0\t1\t2\n"), "lot: wrong texts");
+    expect(lot_writes("out", "short.job\nnone.job\nempty.job\nexact.job\nlong.job\nlonger.job\nchip.job",
+                      "short.job" REFUSED("7") "none.job" REFUSED("7")
+                      "empty.job\t10\t-\t-\t0\t-\t0\t-\t6985\nexact.job\t10\t-\t-\t0\t-\t150\t0000\t6A88\n"
+                      "long.job" REFUSED("9") "longer.job" REFUSED("9") "chip.job" REFUSED("7")
+                      "END\t7\t0\t7\t0\n"), "lot: refused");
+    expect(!stands("out/empty.register") && !stands("out/long.register"), "lot: a refused job has no register");
+}
+
+/* Registers of an earlier run; files that cannot be read or written. */
+static void lot_files(void)
+{
+    static char name[6000];
+    static struct mode_run m;
+    write_file("out/empty.register", "old", 3);
+    write_file("out/half.register", "old", 3);
+    write_file("out/gone.register", "old", 3);
+    expect(lot_writes("out", "empty.job\nhalf.txt\ngone.job\nfolder\n",
+                      "empty.job\t10\t-\t-\t0\t-\t0\t-\t6985\nhalf.txt\t-\t-\t-\t0\t-\t1:4\t-\t-\n"
+                      "gone.job" UNDONE "folder" UNDONE "END\t4\t0\t1\t3\n"), "lot: no job to read");
+    expect(!stands("out/empty.register") && !stands("out/half.register"), "lot: old registers are removed");
+    expect(stands("out/gone.register"), "lot: but not where nothing was read");
+    mkdir("out/good.register.d", 0777);
+    unlink("out/good.register");
+    mkdir("out/good.register", 0777);
+    expect(lot_writes("out", "good.job\nplain\n", "good.job" UNDONE "plain" LOADED "END\t2\t1\t0\t1\n") &&
+           !stands("out/.good.register.part"), "lot: a register that cannot be written");
+    rmdir("out/good.register");
+    rmdir("out/good.register.d");
+    run_lot("out", "good.job\0\n", 10, &m, 0);
+    expect(m.status == 0 && wrote(&m, "good.job?" UNDONE "END\t1\t0\t0\t1\n"), "lot: a zero byte in a name");
+    memset(name, 'n', sizeof name);
+    run_lot("out", name, sizeof name, &m, 0);
+    expect(m.status == 0 && m.length == sizeof name + strlen(UNDONE "END\t1\t0\t0\t1\n") && m.bytes[5999] == 'n',
+           "lot: a long name");
+    run_lot("out", "good.job\n", 9, &m, "/dev/full");
+    expect(m.status == 2, "lot: output that cannot be written");
+    run_lot("nowhere", "good.job\n", 9, &m, 0);
+    expect(m.status == 2 && m.length == 0, "lot: no folder");
+    run_lot("plain", "good.job\n", 9, &m, 0);
+    expect(m.status == 2 && m.length == 0, "lot: a file for a folder");
+}
+
+static void lot_options(void)
+{
+    static const char *const bad[] = { "", "out out", "-1 out", "--part out", "--part 2/2 out", "--part 0/0 out",
+                                       "--part /1 out", "--part 1 out", "--part 0/1x out", "--resume" };
+    static const char zeros[] = "\0good.job\0plain\0\0odd\nname\0a.b.c";
+    static struct mode_run m;
+    u32 i;
+    run_lot("-0 out", zeros, sizeof zeros - 1, &m, 0);
+    expect(m.status == 0 && wrote(&m, "good.job" LOADED "plain" LOADED "odd?name" UNDONE "a.b.c" LOADED
+                                      "END\t4\t3\t0\t1\n"), "lot -0");
+    expect(lot_writes("--part 1/3 out", "x\n\nplain\ny\nz\ngood.job", "plain" LOADED "good.job" LOADED
+                      "END\t2\t2\t0\t0\n"), "lot --part");
+    expect(lot_writes("--part 0/1 --resume out", "good.job\nplain", "good.job" PASSED_OVER "plain" PASSED_OVER
+                      "END\t2\t2\t0\t0\n"), "lot --part --resume");
+    for (i = 0; i < sizeof bad / sizeof bad[0]; i++) {
+        run_lot(bad[i], "good.job\n", 9, &m, 0);
+        expect(m.status == 2 && m.length == 0, "lot: options");
+    }
+}
+
+/* Each register that isn't whole: the job is done again. */
+static void lot_resume(void)
+{
+    static const char *const torn[] = {
+        "", "END 00000\n", "00001 02 00 9000 07 A5 11\nEND 00002\n", "00001 02 00 9000 07 A5 11\nEND 00001",
+        "00001 02 00 9000 07 A5 11\nEND 00001\n\n", "00001 02 00 9000 07 A5 11\n", "00001 02 00 9000 87 5A 11\nEND 00001\n",
+        "00001 02 00 6985 07 A5 11\nEND 00001\n", "00001 02 00 9000 07 A5 1\n1END 00001\n",
+        "00001\n02 00 9000 07 A5 11\nEND 00001\n",
+        "00001 02 00 9000 07 A5 11\n00002 02 00 9000 07 5A 11\nEND 00002\n", "00001 02 00 9000 07 A5 11\nend 00001\n",
+    };
+    static char many[66000];
+    u32 i;
+    for (i = 0; i < sizeof torn / sizeof torn[0]; i++) {
+        write_file("out/good.register", torn[i], (u32)strlen(torn[i]));
+        expect(lot_writes("--resume out", "good.job\n", "good.job" LOADED "END\t1\t1\t0\t0\n") &&
+               file_is("out/good.register", REGISTER_TEXT), "lot --resume: not whole");
+    }
+    unlink("out/good.register");
+    expect(lot_writes("--resume out", "good.job\n", "good.job" LOADED "END\t1\t1\t0\t0\n"), "lot --resume: none");
+    write_file("out/gone.register", "00001 02 00 9000 07 A5 11\nEND 00001\n", 36);
+    expect(lot_writes("--resume out", "gone.job", "gone.job\t0\t07\tA5\t1\t-\t-\t-\t-\nEND\t1\t1\t0\t0\n"),
+           "lot --resume: the job isn't read");
+    for (i = 0; i < 1200; i++)
+        memcpy(many + 26 * i, "00001 02 00 9000 07 A5 11\n", 26);
+    memcpy(many + 26 * i, "END 01200\n", 10);
+    write_file("out/gone.register", many, 26 * i + 10);
+    expect(lot_writes("--resume out", "gone.job", "gone.job\t0\t07\tA5\t1200\t-\t-\t-\t-\nEND\t1\t1\t0\t0\n"),
+           "lot --resume: many events");
+}
+
+/* What a lot writes is what cut and replay print. */
+static void lot_is_cut_and_replay(void)
+{
+    static struct mode_run cut, replayed;
+    static u8 bytes[JOB];
+    static char text[2000];
+    u32 n;
+    make_chip(bytes, 6);
+    n = CHIP + bytes_of(bytes + CHIP, G2000 G2100 G3100 G3800 KEYS "0801 1D");
+    memset(bytes + n, 0x33, 29);
+    n += 29 + bytes_of(bytes + n + 29, "0A00 FF012C");
+    memset(bytes + n, 0x44, 300);
+    n += 300;
+    write_file("spanning.job", bytes, n);
+    run_child("cut", bytes, n, &cut);
+    run_child("replay", cut.bytes, cut.length, &replayed);
+    memcpy(text, replayed.bytes, replayed.length);
+    expect(replayed.length == 5 * 26 + 10 &&
+           lot_writes("out", "spanning.job", "spanning.job\t0\t07\tA5\t5\t0102030405060708\t-\t-\t-\nEND\t1\t1\t0\t0\n") &&
+           file_is("out/spanning.register", text), "lot: as cut and replay");
+}
+
+static void empty_folder(const char *name)
+{
+    DIR *d = opendir(name);
+    struct dirent *e;
+    char path[600];
+    while (d != NULL && (e = readdir(d)) != NULL) {
+        snprintf(path, sizeof path, "%s/%s", name, e->d_name);
+        unlink(path);
+    }
+    if (d != NULL)
+        closedir(d);
+    rmdir(name);
+}
+
+static void lots(void)
+{
+    int here = open(".", O_RDONLY);
+    if (here < 0 || mkdtemp(folder) == NULL || chdir(folder) != 0 || mkdir("out", 0777) != 0 || mkdir("folder", 0777) != 0) {
+        perror(folder);
+        exit(1);
+    }
+    make_lot_files();
+    lot_lines();
+    lot_files();
+    lot_options();
+    lot_resume();
+    lot_is_cut_and_replay();
+    empty_folder("out");
+    empty_folder("folder");
+    if (fchdir(here) != 0)
+        perror("fchdir");
+    close(here);
+    empty_folder(folder);
+}
+
 int selftest(void)
 {
     example_1();
@@ -982,6 +1372,9 @@ int selftest(void)
     descriptor_rules();
     bytes_past_lengths();
     reader_endings();
+    stopping_places();
+    texts();
+    lots();
     if (failures != 0) {
         printf("second: %u of %u tests failed\n", failures, tests);
         return 1;

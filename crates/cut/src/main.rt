@@ -1,96 +1,93 @@
-// The program `cut`: a chip record and then an order on standard input; on standard output what `replay` reads: the
-// chip record, INSTALL '0C', SELECT, and the writer's records. A refusal writes one line to standard error alone.
-use libc::STDERR_FILENO;
-use libc::STDIN_FILENO;
-use libc::STDOUT_FILENO;
+// The program `cut`: a job in, as `job` takes it; on standard output the session that `replay` reads: the chip record,
+// INSTALL '0C', SELECT, and the writer's records. A refusal writes one line to standard error alone.
 ghost use mathlib.Core.Path.{_≡_};
-ghost use Prim.Native.Nat.{_*_};
 ghost use lib.ListN.{length};
-ghost use Rattle.cutting.specs.Job.{installRecord, selectRecord};
+ghost use Prim.Native.Nat.{_≤_};
 
-const RECORD_SIZE: usize = 260;
+// INSTALL and SELECT stand before the writer's records.
+const FIRST_RECORDS: usize = 2;
 
-// The two records before the writer's: the installation and the selection of 1TIC.ICA.
-fn install_record() -> [u8; 260]
-    ensures { λ r. ⌜ (r ≡ installRecord) × (260 ≡ length r) ⌝ }
+// The statuses: done, refused by a number, not done.
+const DONE: u8 = 0;
+
+const REFUSED: u8 = 1;
+
+const NOT_DONE: u8 = 2;
+
+// The buffers, each by what its user asks of it.
+fn job_buffer() -> [u8; 8233]
+    ensures { λ r. ⌜ 8233 ≡ length r ⌝ }
 {
-    let mut record = [0u8; 260];
-    slices::lay(
-        &mut record,
-        b"\x01\x0C\x00\x21\x081TIC.PKG\x081TIC.MOD\x081TIC.ICA\x01\x00\x02\xC9\x00\x00",
-    );
-    record
+    [0; 8233]
 }
 
-fn select_record() -> [u8; 260]
-    ensures { λ r. ⌜ (r ≡ selectRecord) × (260 ≡ length r) ⌝ }
+fn line_buffer() -> [u32; 8233]
+    ensures { λ r. ⌜ 8233 ≡ length r ⌝ }
 {
-    let mut record = [0u8; 260];
-    slices::lay(&mut record, b"\x03\x00\x00\x081TIC.ICA");
-    record
+    [0; 8233]
 }
 
-// Room for an order, and for the first byte of one that is too long.
-fn order_buffer() -> [u8; 8193]
-    ensures { λ r. ⌜ 8193 ≡ length r ⌝ }
+// Room for 47 records: no complete order makes more.
+fn record_buffer() -> [u8; 12220]
+    ensures { λ r. ⌜ 12220 ≡ length r ⌝ }
 {
-    [0; 8193]
+    [0; 12220]
 }
 
-// Room for 45 records: no complete order is cut into more.
-fn record_buffer() -> [u8; 11700]
-    ensures { λ r. ⌜ 11700 ≡ length r ⌝ }
-{
-    [0; 11700]
-}
-
-// A refusal in words.
-fn say(number: u8) {
-    if number == 7 {
-        io::write_all(
-            STDERR_FILENO,
-            b"cut: refused 07: chip record not 40 bytes, or its last three not zero\n",
-        );
-    } else if number == 9 {
-        io::write_all(STDERR_FILENO, b"cut: refused 09: order over 8,192 bytes\n");
-    } else if number == 10 {
-        io::write_all(
-            STDERR_FILENO,
-            b"cut: refused 10: order not complete for this chip\n",
-        );
-    } else {
-        io::write_all(
-            STDERR_FILENO,
-            b"cut: refused 11: room for records too short\n",
-        );
+fn print(chip: &[u8], records: &[u8]) -> u8 {
+    if edge::print(b"cut: standard output", chip) {
+        if edge::print(b"cut: standard output", records) {
+            return DONE;
+        }
     }
+    NOT_DONE
 }
 
-// The chip record, INSTALL '0C', SELECT and these records.
-fn print_job(chip: &[u8], records: &[u8]) {
-    let install = install_record();
-    let select = select_record();
-    io::write_all(STDOUT_FILENO, chip);
-    io::write_all(STDOUT_FILENO, &install);
-    io::write_all(STDOUT_FILENO, &select);
-    io::write_all(STDOUT_FILENO, records);
-}
-
-// The order's job for the chip of this record, or its refusal.
-fn cut(chip: &[u8], order: &[u8]) {
+// A job's session, or its refusal. `lines` are those of its text, none where it is no text.
+fn cut(label: &[u8], job: &[u8], lines: &[u32]) -> u8 {
+    let end = intake::chip_end(job.len());
+    let chip = &job[..end];
+    let order = &job[end..];
     let mut room = record_buffer();
-    let written = writer::write(chip, order, &mut room);
+    let written = job_session::lay_session(chip, order, &mut room);
     if written.number != 0 {
-        say(written.number);
-        return;
+        let why = intake::why_of(written.number, chip, order);
+        intake::say_refused(label, written.number, chip, why, lines);
+        return REFUSED;
     }
-    print_job(chip, &room[..written.count * RECORD_SIZE]);
+    let size = (written.count + FIRST_RECORDS) * job_session::RECORD_SIZE;
+    print(chip, &room[..size])
+}
+
+// How many lines are known of n bytes.
+fn lines_of(n: usize, is_text: bool) -> usize
+    ensures { λ r. ⌜ r ≤ n ⌝ }
+{
+    if is_text {
+        return n;
+    }
+    0
+}
+
+fn run(label: &[u8], fd: i32, is_text: bool) -> u8 {
+    let mut room = job_buffer();
+    let mut lines = line_buffer();
+    let job = intake::take(fd, is_text, &mut room, &mut lines);
+    if job.fault != intake::FINE {
+        intake::say_unread(label, job);
+        return NOT_DONE;
+    }
+    let known = lines_of(job.count, is_text);
+    cut(label, &room[..job.count], &lines[..known])
 }
 
 fn main() {
-    let mut chip = [0u8; 40];
-    let got = io::read_full(STDIN_FILENO, &mut chip);
-    let mut order = order_buffer();
-    let n = io::read_full(STDIN_FILENO, &mut order);
-    cut(&chip[..got], &order[..n]);
+    let mut label = edge::label_buffer();
+    let start = intake::started(b"cut: ", &mut label);
+    if start.fd < 0 {
+        edge::tell_status(start.tells, NOT_DONE);
+        return;
+    }
+    let status = run(&label[..start.labelled], start.fd, start.is_text);
+    edge::tell_status(start.tells, status);
 }

@@ -3,6 +3,9 @@
 mod source;
 mod text;
 
+use libc::EAGAIN;
+use libc::EINTR;
+use libc::STDOUT_FILENO;
 pub use source::Source;
 pub use source::asks_tell;
 pub use source::label_buffer;
@@ -11,9 +14,6 @@ pub use source::started;
 pub use text::put_text;
 pub use text::say;
 pub use text::say_form;
-use libc::EAGAIN;
-use libc::EINTR;
-use libc::STDOUT_FILENO;
 ghost use mathlib.Core.Path.{_≡_};
 ghost use Prim.Native.Nat.{_≤_};
 ghost use lib.ListN.{length};

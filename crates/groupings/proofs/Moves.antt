@@ -4,9 +4,8 @@ use mathlib.Core.Path.{_≡_}
 use mathlib.Core.List.{List}
 use native.Mathlib.Omega.{arith}
 use lib.Dec.{leb}
-use lib.ListN.{length, drop, length-take, length-drop}
+use lib.ListN.{length, drop}
 use borrow.Author.Tests.{leb-true}
-use Rattle.lists.specs.Bytes.{part}
 use Rattle.lists.specs.Choice.{by-cond}
 use Rattle.model.specs.declared.Header.{Header}
 use Rattle.model.specs.declared.Header.the-variants.{Torn, Whole}
@@ -45,7 +44,3 @@ pub found-ahead : (order : List ℕ) (at : ℕ) → foundAt order at .ending ≡
     → (at < foundAt order at .next) × (foundAt order at .next ≤ length order)
 unfolding foundAt
 found-ahead order at e = by-pull at (length order) (pullOf order at) (pull-ahead order at) e
-
--- a part is no longer than the whole
-pub part-short : (s : List ℕ) (at n : ℕ) → length (part s at n) ≤ length s
-part-short s at n = simp (length-take, length-drop) (omega arith)

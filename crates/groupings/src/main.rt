@@ -1,13 +1,18 @@
-// The program `groupings`: an order on standard input, a line a pull on standard output, and last which ending it has.
-// It streams: an order of any length, in the memory of one window and its lines.
-use libc::STDIN_FILENO;
-use libc::STDOUT_FILENO;
+// The program `groupings [--tell] [FILE]`: an order is read, a line a pull is written to standard output, and last which
+// ending it has. It streams: an order of any length, in the memory of one window and one buffer.
+use model::Header;
 ghost use mathlib.Core.Path.{_≡_};
 ghost use Prim.Native.Nat.{_+_, _*_, _≤_, _<_};
 ghost use lib.ListN.{length};
 
-// Over 5 and 65,534 bytes, the longest grouping: what isn't whole at the front of a full window never is.
-const WINDOW_SIZE: usize = 131072;
+// A value of up to so many bytes is printed only when it is whole: it fits a window with its header.
+const LONGEST: usize = 16384;
+
+// A value goes into the buffer in pieces of at most so many bytes.
+const PIECE: usize = 4096;
+
+// A line's characters other than its value's digits, and the dash of an empty one.
+const LINE_MORE: usize = 7;
 
 const BLANK: u8 = 0x20;
 
@@ -15,10 +20,71 @@ const LINE_FEED: u8 = 0x0A;
 
 const DASH: u8 = 0x2D;
 
-// A line's characters other than its value's digits, and the dash of an empty one.
-const LINE_MORE: usize = 7;
+// `good` says that all went out so far. Where a write fails, nothing is written behind it.
+fn write(good: &mut bool, text: &[u8]) {
+    if *good {
+        *good = edge::print(b"groupings: standard output", text);
+    }
+}
 
-// A value in hexadecimal, or a dash. The place behind it.
+// How much of the buffer stays filled where so many more characters come: all, or none of it once it is written.
+fn room_for(good: &mut bool, out: &[u8], filled: usize, more: usize) -> usize
+    requires { ⌜ (filled ≤ length (now out)) × (more ≤ length (now out)) ⌝ }
+    ensures { λ r. ⌜ r + more ≤ length (now (out .entry)) ⌝ }
+{
+    if out.len() - filled < more {
+        write(good, &out[..filled]);
+        return 0;
+    }
+    filled
+}
+
+// Every `put` function writes behind what is filled, and gives how much is filled then.
+
+fn put_character(good: &mut bool, out: &mut [u8], filled: usize, c: u8) -> usize
+    requires { ⌜ (filled ≤ length (now out)) × (8192 ≤ length (now out)) ⌝ }
+    ensures { λ r. ⌜ r ≤ length (now (out .entry)) ⌝ }
+{
+    let at = room_for(good, out, filled, 1);
+    out[at] = c;
+    at + 1
+}
+
+// A tag and the blank behind it.
+fn put_tag(good: &mut bool, out: &mut [u8], filled: usize, tag: u16) -> usize
+    requires { ⌜ (filled ≤ length (now out)) × (8192 ≤ length (now out)) ⌝ }
+    ensures { λ r. ⌜ r ≤ length (now (out .entry)) ⌝ }
+{
+    let at = room_for(good, out, filled, 5);
+    hex::put_hex4(out, at, tag);
+    out[at + 4] = BLANK;
+    at + 5
+}
+
+fn put_piece(good: &mut bool, out: &mut [u8], filled: usize, piece: &[u8]) -> usize
+    requires { ⌜ (filled ≤ length (now out)) × (8192 ≤ length (now out)) × (length (now piece) ≤ 4096) ⌝ }
+    ensures { λ r. ⌜ r ≤ length (now (out .entry)) ⌝ }
+{
+    let at = room_for(good, out, filled, 2 * piece.len());
+    hex::put_hex(out, at, piece)
+}
+
+// Bytes of a value in hexadecimal.
+fn put_bytes(good: &mut bool, out: &mut [u8], filled: usize, value: &[u8]) -> usize
+    requires { ⌜ (filled ≤ length (now out)) × (8192 ≤ length (now out)) ⌝ }
+    ensures { λ r. ⌜ r ≤ length (now (out .entry)) ⌝ }
+{
+    let mut to = filled;
+    let mut i: usize = 0;
+    while i < value.len() {
+        let n = bytes::least(value.len() - i, PIECE);
+        to = put_piece(good, out, to, &value[i..i + n]);
+        i += n;
+    }
+    to
+}
+
+// A value in hexadecimal, or a dash, from a place on that has room for it. The place behind it.
 fn put_value(out: &mut [u8], at: usize, value: &[u8]) -> usize
     requires { ⌜ at + 2 * length (now value) + 1 ≤ length (now out) ⌝ }
     ensures { λ r. ⌜ r ≤ at + 2 * length (now (value .entry)) + 1 ⌝ }
@@ -30,8 +96,8 @@ fn put_value(out: &mut [u8], at: usize, value: &[u8]) -> usize
     hex::put_hex(out, at, value)
 }
 
-// The line of a grouping. The place behind it.
-fn put_grouping(out: &mut [u8], at: usize, tag: u16, value: &[u8]) -> usize
+// The line of a grouping likewise.
+fn put_line(out: &mut [u8], at: usize, tag: u16, value: &[u8]) -> usize
     requires { ⌜ at + 2 * length (now value) + 7 ≤ length (now out) ⌝ }
     ensures { λ r. ⌜ r ≤ length (now (out .entry)) ⌝ }
 {
@@ -42,36 +108,30 @@ fn put_grouping(out: &mut [u8], at: usize, tag: u16, value: &[u8]) -> usize
     end + 1
 }
 
-// How much of the buffer stays filled where so many more characters come: all, or none of it once it is written.
-fn room_for(out: &[u8], filled: usize, more: usize) -> usize
-    requires { ⌜ (filled ≤ length (now out)) × (more ≤ length (now out)) ⌝ }
-    ensures { λ r. ⌜ r + more ≤ length (now (out .entry)) ⌝ }
-{
-    if out.len() - filled < more {
-        io::write_all(STDOUT_FILENO, &out[..filled]);
-        return 0;
-    }
-    filled
-}
-
-// The line of a grouping behind what is filled. How much is filled then.
-fn print_grouping(out: &mut [u8], filled: usize, tag: u16, value: &[u8]) -> usize
-    requires { ⌜ (filled ≤ length (now out)) × (2 * length (now value) + 7 ≤ length (now out)) ⌝ }
+// The line of a grouping: at once where the buffer can hold it, else in pieces.
+fn put_grouping(good: &mut bool, out: &mut [u8], filled: usize, tag: u16, value: &[u8]) -> usize
+    requires { ⌜ (filled ≤ length (now out)) × (8192 ≤ length (now out)) ⌝ }
     ensures { λ r. ⌜ r ≤ length (now (out .entry)) ⌝ }
 {
-    let at = room_for(out, filled, 2 * value.len() + LINE_MORE);
-    put_grouping(out, at, tag, value)
+    if value.len() < PIECE - LINE_MORE {
+        let at = room_for(good, out, filled, 2 * value.len() + LINE_MORE);
+        return put_line(out, at, tag, value);
+    }
+    let first = put_tag(good, out, filled, tag);
+    let second = put_bytes(good, out, first, value);
+    put_character(good, out, second, LINE_FEED)
 }
 
-// Where the pulls from a window stop, and how much of the buffer is filled.
-struct Stop {
+// How far a window is used up, how much of the buffer is filled, and how many bytes of a long value are still to come.
+struct Used {
     pub at: usize,
     pub filled: usize,
+    pub owed: usize,
 }
 
-// The lines of all whole groupings in a window.
-fn print_window(order: &[u8], out: &mut [u8], start: usize) -> Stop
-    requires { ⌜ (start ≤ length (now out)) × (2 * length (now order) + 7 ≤ length (now out)) ⌝ }
+// The lines of the groupings that are whole in a window.
+fn print_whole(good: &mut bool, order: &[u8], out: &mut [u8], start: usize) -> Used
+    requires { ⌜ (start ≤ length (now out)) × (8192 ≤ length (now out)) ⌝ }
     ensures { λ r. ⌜ (r .at ≤ length (now (order .entry))) × (r .filled ≤ length (now (out .entry))) ⌝ }
 {
     let mut at: usize = 0;
@@ -79,19 +139,86 @@ fn print_window(order: &[u8], out: &mut [u8], start: usize) -> Stop
     while at < order.len() {
         let found = reader::found_at(order, at);
         if found.ending != 0 {
-            return Stop {
+            return Used {
                 at: at,
                 filled: filled,
+                owed: 0,
             };
         }
         let value = reader::value_of(order, found);
-        filled = print_grouping(out, filled, found.tag, value);
+        filled = put_grouping(good, out, filled, found.tag, value);
         at = found.next;
     }
-    Stop {
+    Used {
         at: at,
         filled: filled,
+        owed: 0,
     }
+}
+
+// The start of a long value's line, where a window begins with such a grouping: the rest of the line goes as it comes.
+fn print_long(good: &mut bool, order: &[u8], out: &mut [u8], filled: usize) -> Used
+    requires { ⌜ (filled ≤ length (now out)) × (8192 ≤ length (now out)) ⌝ }
+    ensures { λ r. ⌜ (r .at ≤ length (now (order .entry))) × (r .filled ≤ length (now (out .entry))) ⌝ }
+{
+    let header = header::header_at(order, 0);
+    match header {
+        Header::Torn => Used {
+            at: 0,
+            filled: filled,
+            owed: 0,
+        },
+        Header::Whole(head) => {
+            if head.len <= LONGEST {
+                return Used {
+                    at: 0,
+                    filled: filled,
+                    owed: 0,
+                };
+            }
+            Used {
+                at: bytes::least(head.size, order.len()),
+                filled: put_tag(good, out, filled, head.tag),
+                owed: head.len,
+            }
+        }
+    }
+}
+
+// More of a long value, and the end of its line behind the last byte.
+fn print_more(good: &mut bool, order: &[u8], out: &mut [u8], filled: usize, owed: usize) -> Used
+    requires { ⌜ (filled ≤ length (now out)) × (8192 ≤ length (now out)) ⌝ }
+    ensures { λ r. ⌜ (r .at ≤ length (now (order .entry))) × (r .filled ≤ length (now (out .entry))) ⌝ }
+{
+    let n = bytes::least(owed, order.len());
+    let to = put_bytes(good, out, filled, &order[..n]);
+    if n < owed {
+        return Used {
+            at: n,
+            filled: to,
+            owed: owed - n,
+        };
+    }
+    Used {
+        at: n,
+        filled: put_character(good, out, to, LINE_FEED),
+        owed: 0,
+    }
+}
+
+// Prints what can be printed of a window. Nothing of it is used up where the order is at its end, or torn.
+fn print_window(good: &mut bool, order: &[u8], out: &mut [u8], filled: usize, owed: usize) -> Used
+    requires { ⌜ (filled ≤ length (now out)) × (8192 ≤ length (now out)) ⌝ }
+    ensures { λ r. ⌜ (r .at ≤ length (now (order .entry))) × (r .filled ≤ length (now (out .entry))) ⌝ }
+{
+    if 0 < owed {
+        return print_more(good, order, out, filled, owed);
+    }
+    let used = print_whole(good, order, out, filled);
+    if 0 < used.at {
+        return used;
+    }
+    print_long(good, order, out, used.filled)
 }
 
 // The bytes from one place to another, moved to the front. How many they are.
@@ -108,78 +235,226 @@ fn keep(window: &mut [u8], from: usize, end: usize) -> usize
     n
 }
 
-// A full window of which a grouping was pulled: more may come.
-fn goes_on(end: usize, at: usize) -> bool {
-    if end < WINDOW_SIZE {
-        return false;
-    }
-    0 < at
+// How far a window is filled, whether the input has ended, and whether a read failed, which was said.
+struct Filled {
+    pub end: usize,
+    pub ended: bool,
+    pub failed: bool,
 }
 
-// What a window leaves: how many bytes are kept at its front, how much of the buffer is filled, and whether the
-// order may go on.
-struct Rest {
+// Fills the window behind what is kept of it. An input that has ended is not read again.
+fn fill(window: &mut [u8], kept: usize, ended: bool, fd: i32, label: &[u8]) -> Filled
+    requires { ⌜ kept ≤ length (now window) ⌝ }
+    ensures { λ r. ⌜ r .end ≤ length (now (window .exit)) ⌝ }
+{
+    if ended {
+        return Filled {
+            end: kept,
+            ended: true,
+            failed: false,
+        };
+    }
+    let got = edge::read_labelled(label, fd, &mut window[kept..]);
+    let end = kept + got.count;
+    Filled {
+        end: end,
+        ended: end < window.len(),
+        failed: got.failed,
+    }
+}
+
+// Where the reading stands: how much is kept at the window's front and filled of the buffer, how many bytes of a long
+// value are still to come, where the window's front lies in the order and where the grouping under way begins, and
+// whether the input has ended, whether to go on, and whether a read or a write failed, which was said.
+struct Stand {
     pub kept: usize,
     pub filled: usize,
-    pub more: bool,
+    pub owed: usize,
+    pub front: u64,
+    pub began: u64,
+    pub ended: bool,
+    pub going: bool,
+    pub failed: bool,
 }
 
-// Fills the window behind what is kept of it, and prints its groupings.
-fn print_next(window: &mut [u8], kept: usize, out: &mut [u8], filled: usize) -> Rest
-    requires { ⌜ (kept ≤ length (now window)) × (filled ≤ length (now out)) × (length (now window) ≡ 131072) × (length (now out) ≡ 262151) ⌝ }
+// Where a grouping under way begins: behind a long value's start that is kept, else at the window's front.
+fn began_at(s: Stand) -> u64 {
+    if 0 < s.owed {
+        return s.began;
+    }
+    s.front
+}
+
+fn stopped(s: Stand) -> Stand
+    ensures { λ r. ⌜ (r .kept ≡ s .kept) × (r .filled ≡ s .filled) ⌝ }
+{
+    Stand {
+        kept: s.kept,
+        filled: s.filled,
+        owed: s.owed,
+        front: s.front,
+        began: s.began,
+        ended: s.ended,
+        going: false,
+        failed: true,
+    }
+}
+
+// Fills the window, prints what can be printed of it, and keeps the rest.
+fn print_next(window: &mut [u8], out: &mut [u8], s: Stand, fd: i32, label: &[u8]) -> Stand
+    requires { ⌜ (s .kept ≤ length (now window)) × (s .filled ≤ length (now out)) × (8192 ≤ length (now out)) ⌝ }
     ensures { λ r. ⌜ (r .kept ≤ length (now (window .entry))) × (r .filled ≤ length (now (out .entry))) ⌝ }
 {
-    let end = kept + io::read_full(STDIN_FILENO, &mut window[kept..]);
-    let stop = print_window(&window[..end], out, filled);
-    let n = keep(window, stop.at, end);
-    Rest {
+    let f = fill(window, s.kept, s.ended, fd, label);
+    let end = f.end;
+    if f.failed {
+        return stopped(s);
+    }
+    let mut good = true;
+    let used = print_window(&mut good, &window[..end], out, s.filled, s.owed);
+    let n = keep(window, used.at, end);
+    Stand {
         kept: n,
-        filled: stop.filled,
-        more: goes_on(end, stop.at),
+        filled: used.filled,
+        owed: used.owed,
+        front: std::num::wrapping_add_u64(s.front, used.at as u64),
+        began: began_at(s),
+        ended: f.ended,
+        going: 0 < used.at && good,
+        failed: !good,
     }
 }
 
-// What is filled, and then the last line, by how many bytes were left over.
-fn print_ending(out: &[u8], filled: usize, left: usize)
-    requires { ⌜ filled ≤ length (now out) ⌝ }
+// Window after window to the end of the order, or to where it is torn. The loops here count their turns down from a
+// number that no run uses up, since nothing says that an input ends.
+fn print_order(window: &mut [u8], out: &mut [u8], fd: i32, label: &[u8]) -> Stand
+    requires { ⌜ 8192 ≤ length (now out) ⌝ }
+    ensures { λ r. ⌜ r .filled ≤ length (now (out .entry)) ⌝ }
 {
-    io::write_all(STDOUT_FILENO, &out[..filled]);
-    if left == 0 {
-        io::write_all(STDOUT_FILENO, b"end\n");
-    } else {
-        io::write_all(STDOUT_FILENO, b"torn\n");
-    }
-}
-
-// The buffers, each by what its user asks of it: the longest line of a window has room.
-fn window_buffer() -> [u8; 131072]
-    ensures { λ r. ⌜ 131072 ≡ length r ⌝ }
-{
-    [0; 131072]
-}
-
-fn line_buffer() -> [u8; 262151]
-    ensures { λ r. ⌜ 262151 ≡ length r ⌝ }
-{
-    [0; 262151]
-}
-
-// The loop counts its turns down from a number that no run uses up, since nothing says that an input ends.
-fn main() {
-    let mut window = window_buffer();
-    let mut out = line_buffer();
-    let mut kept: usize = 0;
-    let mut filled: usize = 0;
+    let mut s = Stand {
+        kept: 0,
+        filled: 0,
+        owed: 0,
+        front: 0,
+        began: 0,
+        ended: false,
+        going: true,
+        failed: false,
+    };
     let mut turns = u64::MAX;
     while 0 < turns {
-        let rest = print_next(&mut window, kept, &mut out, filled);
-        kept = rest.kept;
-        filled = rest.filled;
-        if rest.more {
-            turns -= 1;
-        } else {
-            turns = 0;
+        s = print_next(window, out, s, fd, label);
+        if !s.going {
+            return s;
         }
+        turns -= 1;
     }
-    print_ending(&out, filled, kept);
+    s
+}
+
+// How many bytes of the input were left, and whether a read failed, which was said.
+struct Rest {
+    pub count: u64,
+    pub failed: bool,
+}
+
+// Reads to the end of the input: an order's length is known only then.
+fn read_rest(window: &mut [u8], ended: bool, fd: i32, label: &[u8]) -> Rest {
+    let mut count: u64 = 0;
+    let mut over = ended;
+    let mut turns = u64::MAX;
+    while 0 < turns {
+        let f = fill(window, 0, over, fd, label);
+        count = std::num::wrapping_add_u64(count, f.end as u64);
+        over = f.ended;
+        if over {
+            return Rest {
+                count: count,
+                failed: f.failed,
+            };
+        }
+        turns -= 1;
+    }
+    Rest {
+        count: count,
+        failed: true,
+    }
+}
+
+// A grouping was under way where the order ended.
+fn is_torn(s: Stand) -> bool {
+    if 0 < s.owed {
+        return true;
+    }
+    0 < s.kept
+}
+
+// What is filled of the buffer, the end of a line that was broken off, and the last line. Whether all went out.
+fn print_ending(out: &[u8], s: Stand) -> bool
+    requires { ⌜ s .filled ≤ length (now out) ⌝ }
+{
+    let filled = s.filled;
+    let mut good = true;
+    write(&mut good, &out[..filled]);
+    if 0 < s.owed {
+        write(&mut good, b"\n");
+    }
+    if is_torn(s) {
+        write(&mut good, b"torn\n");
+    } else {
+        write(&mut good, b"end\n");
+    }
+    good
+}
+
+fn say_torn(label: &[u8], s: Stand, rest: u64) {
+    let read = std::num::wrapping_add_u64(s.front, s.kept as u64);
+    edge::say_form(
+        label,
+        b": torn at byte # of #: a header or a value is not whole there\n",
+        &[s.began, std::num::wrapping_add_u64(read, rest)],
+    );
+}
+
+// The buffers. The window holds the longest value that is printed only when it is whole, with its header.
+fn window_buffer() -> [u8; 20480]
+    ensures { λ r. ⌜ 20480 ≡ length r ⌝ }
+{
+    [0; 20480]
+}
+
+fn text_buffer() -> [u8; 16384]
+    ensures { λ r. ⌜ 16384 ≡ length r ⌝ }
+{
+    [0; 16384]
+}
+
+fn groupings(fd: i32, label: &[u8], tells: bool) {
+    let mut window = window_buffer();
+    let mut out = text_buffer();
+    let s = print_order(&mut window, &mut out, fd, label);
+    if s.failed {
+        return;
+    }
+    let rest = read_rest(&mut window, s.ended, fd, label);
+    if rest.failed {
+        return;
+    }
+    if print_ending(&out, s) {
+        let torn = is_torn(s);
+        if torn {
+            say_torn(label, s, rest.count);
+        }
+        edge::tell(tells, torn);
+    }
+}
+
+fn main() {
+    let mut label = edge::label_buffer();
+    let source = edge::started(b"groupings: ", &mut label);
+    if source.fd < 0 {
+        return;
+    }
+    let n = source.labelled;
+    groupings(source.fd, &label[..n], source.tells);
 }

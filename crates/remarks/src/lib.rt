@@ -137,8 +137,36 @@ fn note_refused(label: &[u8], r: &[u8], noted: Noted) -> Noted
     }
 }
 
-// The records of a block, beside the lines that they were given.
-pub fn note_all(label: &[u8], records: &[u8], lines: &[u8], mut noted: Noted) -> Noted
+// Whether the lines of so many events have no number.
+fn none_refused(lines: &[u8], count: usize) -> bool
+    requires { ⌜ count * 26 ≤ length (now lines) ⌝ }
+{
+    let mut i: usize = 0;
+    while i < count {
+        if lines[i * LINE_SIZE + NUMBER_PLACE] != ZERO_DIGIT {
+            return false;
+        }
+        i += 1;
+    }
+    true
+}
+
+// So many events more, none of them refused.
+fn note_good(count: usize, noted: Noted) -> Noted
+    requires { ⌜ count ≤ 0x100000000000000 ⌝ }
+{
+    let mut events = MOST;
+    if noted.events < MOST {
+        events = noted.events + count as u64;
+    }
+    Noted {
+        events: events,
+        refused: noted.refused,
+    }
+}
+
+// The records of a block one by one, beside the lines that they were given.
+fn note_each(label: &[u8], records: &[u8], lines: &[u8], mut noted: Noted) -> Noted
     requires { ⌜ length (now records) / 260 * 26 ≤ length (now lines) ⌝ }
 {
     let mut i: usize = 0;
@@ -146,10 +174,22 @@ pub fn note_all(label: &[u8], records: &[u8], lines: &[u8], mut noted: Noted) ->
     while i < k {
         let from = i * RECORD_SIZE;
         let r = &records[from..from + RECORD_SIZE];
-        noted = note(label, r, lines[i * LINE_SIZE + NUMBER_PLACE] != ZERO_DIGIT, noted);
+        let refused = lines[i * LINE_SIZE + NUMBER_PLACE] != ZERO_DIGIT;
+        noted = note(label, r, refused, noted);
         i += 1;
     }
     noted
+}
+
+// The records of a block, beside the lines that they were given. A block of which none was refused costs little.
+pub fn note_all(label: &[u8], records: &[u8], lines: &[u8], noted: Noted) -> Noted
+    requires { ⌜ length (now records) / 260 * 26 ≤ length (now lines) ⌝ }
+{
+    let k = records.len() / RECORD_SIZE;
+    if none_refused(lines, k) {
+        return note_good(k, noted);
+    }
+    note_each(label, records, lines, noted)
 }
 
 // The session's end, with so many bytes behind the last whole record. Whether anything was refused.

@@ -1,11 +1,10 @@
-// The program `replay`: a chip record and event records on standard input, the register on standard output.
-// It streams: any number of events, in the memory of one block.
-use libc::STDIN_FILENO;
-use libc::STDOUT_FILENO;
+// The program `replay [--tell] [FILE]`: a chip record and event records are read, the register is written to standard
+// output, and what is refused is said on standard error. It streams: any number of events, in the memory of one block.
 use model::Card;
 use register::Entered;
+use remarks::Noted;
 ghost use mathlib.Core.Path.{_≡_};
-ghost use Prim.Native.Nat.{_<_};
+ghost use Prim.Native.Nat.{_*_, _/_, _≤_};
 ghost use lib.ListN.{length};
 ghost use Rattle.lists.specs.Bytes.{zeros};
 ghost use Rattle.model.specs.Stored.{areaSize};
@@ -14,28 +13,65 @@ ghost use Rattle.soundness.specs.Keeps.{Good};
 // 126 records, and their lines.
 const BLOCK_SIZE: usize = 32760;
 
-// Plays the whole records of block after block, and writes their lines; a torn last record is not an event. How many
-// events there were, by the last five digits. The loop counts its turns down from a number that no run uses up, since
-// nothing says that an input ends.
-fn play_all(c: Card, area: &mut [u8]) -> u64
+// How playing a session ended: the number of events by its last five digits, whether anything was refused, and whether a
+// read or a write failed, which was said.
+struct Outcome {
+    pub count: u64,
+    pub refused: bool,
+    pub failed: bool,
+}
+
+fn failed() -> Outcome {
+    Outcome {
+        count: 0,
+        refused: false,
+        failed: true,
+    }
+}
+
+// Plays the whole records of block after block, and writes their lines; a torn last record is not an event. The loop
+// counts its turns down from a number that no run uses up, since nothing says that an input ends.
+fn play_all(c: Card, area: &mut [u8], fd: i32, label: &[u8]) -> Outcome
     requires { ⌜ Good areaSize c (now area) ⌝ }
 {
     let mut block = block_buffer();
     let mut lines = line_buffer();
     let mut last = Entered { card: c, count: 0 };
+    let mut noted = Noted {
+        events: 0,
+        refused: 0,
+    };
     let mut turns = u64::MAX;
     while 0 < turns {
-        let got = io::read_full(STDIN_FILENO, &mut block);
+        let got = edge::read_labelled(label, fd, &mut block);
+        if got.failed {
+            return failed();
+        }
+        let n = got.count;
         let card = last.card;
-        last = register::enter_all(card, area, &block[..got], last.count, &mut lines);
-        let end = got / register::RECORD_SIZE * register::LINE_SIZE;
-        io::write_all(STDOUT_FILENO, &lines[..end]);
-        if got < BLOCK_SIZE {
-            return last.count;
+        last = register::enter_all(card, area, &block[..n], last.count, &mut lines);
+        noted = remarks::note_all(label, &block[..n], &lines, noted);
+        if !print_lines(&lines, n) {
+            return failed();
+        }
+        if n < BLOCK_SIZE {
+            return Outcome {
+                count: last.count,
+                refused: remarks::note_end(label, noted, n % register::RECORD_SIZE),
+                failed: false,
+            };
         }
         turns -= 1;
     }
-    last.count
+    failed()
+}
+
+// The lines of so many bytes of records.
+fn print_lines(lines: &[u8], n: usize) -> bool
+    requires { ⌜ n / 260 * 26 ≤ length (now lines) ⌝ }
+{
+    let end = n / register::RECORD_SIZE * register::LINE_SIZE;
+    edge::print(b"replay: standard output", &lines[..end])
 }
 
 // The buffers, each by what its user asks of it.
@@ -57,21 +93,50 @@ fn line_buffer() -> [u8; 3276]
     [0; 3276]
 }
 
-// The events of a card that the chip record gives; none where it is refused.
-fn replayed(chip: &[u8]) -> u64 {
+// The events of the card that the chip record gives; none where it is refused.
+fn replayed(chip: &[u8], fd: i32, label: &[u8]) -> Outcome {
     let made = fresh::fresh(chip);
     if made.number != 0 {
-        return 0;
+        remarks::note_chip(label, chip);
+        return Outcome {
+            count: 0,
+            refused: true,
+            failed: false,
+        };
     }
     let mut area = clear_area();
-    play_all(made.card, &mut area)
+    play_all(made.card, &mut area, fd, label)
+}
+
+// Whether the last line went out.
+fn print_end(count: u64) -> bool {
+    let mut end = [0u8; 10];
+    ending::put_end(&mut end, 0, count);
+    edge::print(b"replay: standard output", &end)
+}
+
+fn replay(fd: i32, label: &[u8], tells: bool) {
+    let mut chip = [0u8; 40];
+    let got = edge::read_labelled(label, fd, &mut chip);
+    if got.failed {
+        return;
+    }
+    let n = got.count;
+    let outcome = replayed(&chip[..n], fd, label);
+    if outcome.failed {
+        return;
+    }
+    if print_end(outcome.count) {
+        edge::tell(tells, outcome.refused);
+    }
 }
 
 fn main() {
-    let mut chip = [0u8; 40];
-    let got = io::read_full(STDIN_FILENO, &mut chip);
-    let count = replayed(&chip[..got]);
-    let mut end = [0u8; 10];
-    ending::put_end(&mut end, 0, count);
-    io::write_all(STDOUT_FILENO, &end);
+    let mut label = edge::label_buffer();
+    let source = edge::started(b"replay: ", &mut label);
+    if source.fd < 0 {
+        return;
+    }
+    let n = source.labelled;
+    replay(source.fd, &label[..n], source.tells);
 }

@@ -24,12 +24,13 @@ const SESSION: u8 = 0x10;
 const ACCESSES: usize = 4;
 
 // An access condition, with its key where it has one; the first behind a title, the others behind a semicolon.
-fn write_access(i: usize, ac: u8, key: u8) {
+fn write_access(good: &mut bool, i: usize, ac: u8, key: u8) {
     let mut session_key: u8 = 0;
     if ac == SESSION {
         session_key = key;
     }
     write_form(
+        good,
         b"%{\x00\n    access conditions: |\x01; |\x02; |\x03; |}%{\x00NEVER|\x01PIN|\x10SESSION with key |\x1FALWAYS|}%{\x011 (Issuer key)|\x022 (Load key)|\x033 (Debit/Validation key)|}",
         i as u64,
         ac as u64,
@@ -37,21 +38,28 @@ fn write_access(i: usize, ac: u8, key: u8) {
     );
 }
 
-fn write_accesses(ac: [u8; 4], nkey: [u8; 4]) {
+fn write_accesses(good: &mut bool, ac: [u8; 4], nkey: [u8; 4]) {
     let mut i: usize = 0;
     while i < ACCESSES {
-        write_access(i, ac[i], nkey[i]);
+        write_access(good, i, ac[i], nkey[i]);
         i += 1;
     }
 }
 
 // The type, with a binary file's size, or the number and size of the records.
-fn write_sizes(d: Descriptor) {
+fn write_sizes(good: &mut bool, d: Descriptor) {
     if d.eftype == BINARY {
-        write_form(b", binary file, # byte~", sizes::size_of(d) as u64, 0, 0);
+        write_form(
+            good,
+            b", binary file, # byte~",
+            sizes::size_of(d) as u64,
+            0,
+            0,
+        );
         return;
     }
     write_form(
+        good,
         b"%{\x02, linear file, |\x04, cyclic file, |\x08, simulated counter file, |\x09, counters file, |}# record~ of # byte~",
         d.eftype as u64,
         d.numrec as u64,
@@ -59,18 +67,19 @@ fn write_sizes(d: Descriptor) {
     );
 }
 
-fn write_sfi(sfi: u8) {
+fn write_sfi(good: &mut bool, sfi: u8) {
     if sfi == 0 {
-        write(b", EF, no SFI");
+        write(good, b", EF, no SFI");
         return;
     }
-    write_form(b", EF, SFI '$'", sfi as u64, 0, 0);
+    write_form(good, b", EF, SFI '$'", sfi as u64, 0, 0);
 }
 
 // What a descriptor says but its LID and access conditions.
-fn write_kind(d: Descriptor) {
+fn write_kind(good: &mut bool, d: Descriptor) {
     if d.filetype == DF {
         write_form(
+            good,
             b"%{\x00, DF, validated|\x01, DF, invalidated|}",
             d.status as u64,
             0,
@@ -78,22 +87,23 @@ fn write_kind(d: Descriptor) {
         );
         return;
     }
-    write_sfi(d.sfi);
-    write_sizes(d);
+    write_sfi(good, d.sfi);
+    write_sizes(good, d);
 }
 
-fn write_descriptor(d: Descriptor) {
+fn write_descriptor(good: &mut bool, d: Descriptor) {
     let ac = d.ac;
     let nkey = d.nkey;
-    write_form(b"\n  LID '&'", d.lid as u64, 0, 0);
-    write_kind(d);
-    write_accesses(ac, nkey);
-    write(b"\n");
+    write_form(good, b"\n  LID '&'", d.lid as u64, 0, 0);
+    write_kind(good, d);
+    write_accesses(good, ac, nkey);
+    write(good, b"\n");
 }
 
 // DataRef: which counter a simulated counter file is.
-fn write_data_ref(sfi: u8, number: u8) {
+fn write_data_ref(good: &mut bool, sfi: u8, number: u8) {
     write_form(
+        good,
         b"    stores nothing: it is counter # of the counters file with SFI '$'\n",
         number as u64,
         sfi as u64,
@@ -112,66 +122,67 @@ fn place_of(l: Loading, sfi: u8, nn: u8) -> usize {
 }
 
 // Bytes in hexadecimal, as many lines as they need.
-fn write_dump(bytes: &[u8]) {
+fn write_dump(good: &mut bool, bytes: &[u8]) {
     let mut i: usize = 0;
     while i < bytes.len() {
-        write_hex(b"      ", &bytes[i..], b"\n");
+        write_hex(good, b"      ", &bytes[i..], b"\n");
         i += HEX_LINE;
     }
 }
 
 // A record: its place, and the bytes that `shown` gives.
-fn write_record(c: Card, area: &[u8], sfi: u8, nn: u8) {
+fn write_record(good: &mut bool, c: Card, area: &[u8], sfi: u8, nn: u8) {
     let mut number: u8 = 0;
     let bytes = showing::shown(c, area, sfi, nn, &mut number);
     if number != 0 {
-        write_form(b"    record # cannot be shown\n", nn as u64, 0, 0);
+        write_form(good, b"    record # cannot be shown\n", nn as u64, 0, 0);
         return;
     }
     write_form(
+        good,
         b"    record #: offset #, # byte~\n",
         nn as u64,
         place_of(c.loading, sfi, nn) as u64,
         bytes.len() as u64,
     );
-    write_dump(bytes);
+    write_dump(good, bytes);
 }
 
 // Records 1 to the last.
-fn write_records(c: Card, area: &[u8], sfi: u8, last: u8) {
+fn write_records(good: &mut bool, c: Card, area: &[u8], sfi: u8, last: u8) {
     let mut nn: u8 = 0;
     while nn < last {
         nn += 1;
-        write_record(c, area, sfi, nn);
+        write_record(good, c, area, sfi, nn);
     }
 }
 
 // What is stored of a file.
-fn write_contents(c: Card, area: &[u8], d: Descriptor) {
+fn write_contents(good: &mut bool, c: Card, area: &[u8], d: Descriptor) {
     if d.filetype == DF {
         return;
     }
     if d.eftype == SIMULATED {
-        write_data_ref(d.refsfi, d.refnum);
+        write_data_ref(good, d.refsfi, d.refnum);
         return;
     }
     if d.sfi == 0 {
-        write(b"    no SFI: its records cannot be loaded or shown\n");
+        write(good, b"    no SFI: its records cannot be loaded or shown\n");
         return;
     }
     if d.eftype == BINARY {
-        write_record(c, area, d.sfi, 0);
+        write_record(good, c, area, d.sfi, 0);
         return;
     }
-    write_records(c, area, d.sfi, d.numrec);
+    write_records(good, c, area, d.sfi, d.numrec);
 }
 
-fn write_file(c: Card, area: &[u8], d: Descriptor) {
-    write_descriptor(d);
-    write_contents(c, area, d);
+fn write_file(good: &mut bool, c: Card, area: &[u8], d: Descriptor) {
+    write_descriptor(good, d);
+    write_contents(good, c, area, d);
 }
 
-fn write_files(c: Card, area: &[u8], count: usize)
+fn write_files(good: &mut bool, c: Card, area: &[u8], count: usize)
     requires { ⌜ count ≤ 31 ⌝ }
 {
     let l = c.loading;
@@ -179,22 +190,23 @@ fn write_files(c: Card, area: &[u8], count: usize)
     let mut i: usize = 0;
     while i < count {
         let d = files[i];
-        write_file(c, area, d);
+        write_file(good, c, area, d);
         i += 1;
     }
 }
 
-pub fn write_table(c: Card, area: &[u8]) {
+pub fn write_table(good: &mut bool, c: Card, area: &[u8]) {
     let n = at_most(c.loading.count, TABLE_LIMIT);
     if n == 0 {
-        write(b"\n\nFile table: none\n");
+        write(good, b"\n\nFile table: none\n");
         return;
     }
     write_form(
+        good,
         b"\n\nFile table: # descriptor~; offsets are those in the file area\n",
         n as u64,
         0,
         0,
     );
-    write_files(c, area, n);
+    write_files(good, c, area, n);
 }

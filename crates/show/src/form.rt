@@ -1,7 +1,6 @@
 // Text with values in it. A form is text in which `#` stands for the next value in decimal, `$` for its last byte and `&` for
 // its last two bytes in hexadecimal, and `%` takes it and stands for nothing. Behind any of these, `~` is an s unless the
 // value is 1, and `{}` its word: each word in the braces begins with the byte that it is for and ends with a bar.
-use libc::STDOUT_FILENO;
 ghost use mathlib.Core.Path.{_≡_};
 ghost use Prim.Native.Nat.{_+_, _≤_};
 ghost use lib.ListN.{length};
@@ -47,8 +46,11 @@ pub fn at_most(n: usize, most: usize) -> usize
     most
 }
 
-pub fn write(text: &[u8]) {
-    io::write_all(STDOUT_FILENO, text);
+// `good` says that all went out so far. Where a write fails, nothing is written behind it.
+pub fn write(good: &mut bool, text: &[u8]) {
+    if *good {
+        *good = edge::print(b"show: standard output", text);
+    }
 }
 
 // How many values a character takes.
@@ -123,18 +125,18 @@ fn put_mark(line: &mut [u8], at: usize, mark: u8, value: u64) -> usize
 }
 
 // How much of a line stays used where a mark comes: all, or none of it once it is written.
-fn room_in(line: &[u8], used: usize) -> usize
+fn room_in(good: &mut bool, line: &[u8], used: usize) -> usize
     requires { ⌜ (used ≤ length (now line)) × (20 ≤ length (now line)) ⌝ }
     ensures { λ r. ⌜ r + 20 ≤ length (now (line .entry)) ⌝ }
 {
     if line.len() - used < MARK_LIMIT {
-        write(&line[..used]);
+        write(good, &line[..used]);
         return 0;
     }
     used
 }
 
-fn put_form(line: &mut [u8], form: &[u8], values: &[u64]) -> usize
+fn put_form(good: &mut bool, line: &mut [u8], form: &[u8], values: &[u64]) -> usize
     requires { ⌜ 20 ≤ length (now line) ⌝ }
     ensures { λ r. ⌜ r ≤ length (now (line .entry)) ⌝ }
 {
@@ -146,7 +148,7 @@ fn put_form(line: &mut [u8], form: &[u8], values: &[u64]) -> usize
         let c = form[i];
         next += taken_by(c);
         let value = value_at(values, next);
-        let at = room_in(line, used);
+        let at = room_in(good, line, used);
         used = put_mark(line, at, mark_of(place, c, value), value);
         place = place_after(place, c, value);
         i += 1;
@@ -161,15 +163,15 @@ fn empty_line() -> [u8; 512]
 }
 
 // A form has three values at most. Before the first is taken, the value is 0.
-pub fn write_form(form: &[u8], first: u64, second: u64, third: u64) {
+pub fn write_form(good: &mut bool, form: &[u8], first: u64, second: u64, third: u64) {
     let values = [0, first, second, third];
     let mut line = empty_line();
-    let n = put_form(&mut line, form, &values);
-    write(&line[..n]);
+    let n = put_form(good, &mut line, form, &values);
+    write(good, &line[..n]);
 }
 
 // Bytes in hexadecimal between two texts: as many as a line has, or fewer where there are fewer.
-pub fn write_hex(before: &[u8], bytes: &[u8], after: &[u8])
+pub fn write_hex(good: &mut bool, before: &[u8], bytes: &[u8], after: &[u8])
     requires { ⌜ length (now before) + length (now after) ≤ 448 ⌝ }
 {
     let mut line = empty_line();
@@ -177,5 +179,5 @@ pub fn write_hex(before: &[u8], bytes: &[u8], after: &[u8])
     slices::put_bytes(&mut line, 0, before);
     let end = hex::put_hex(&mut line, before.len(), &bytes[..n]);
     slices::put_bytes(&mut line, end, after);
-    write(&line[..end + after.len()]);
+    write(good, &line[..end + after.len()]);
 }

@@ -1,4 +1,4 @@
-// The program `show`: what `replay` reads, and at its end the card in words, for people.
+// The program `show [--tell] [FILE]`: what `replay` reads, and at its end the card in words, for people.
 // It streams: any number of events, in the memory of one block.
 mod facts;
 mod files;
@@ -6,38 +6,70 @@ mod form;
 
 use facts::write_facts;
 use files::write_table;
-use form::write;
-use libc::STDIN_FILENO;
 use model::Card;
 use register::Entered;
+use remarks::Noted;
 ghost use mathlib.Core.Path.{_≡_};
 ghost use lib.ListN.{length};
 ghost use Rattle.lists.specs.Bytes.{zeros};
 ghost use Rattle.model.specs.Stored.{areaSize};
 ghost use Rattle.soundness.specs.Keeps.{Good};
 
-// 252 records. `register` plays them, and the lines that it makes are dropped.
-const BLOCK_SIZE: usize = 65520;
+// 126 records. `register` plays them, and of the lines that it makes only the refusals are used.
+const BLOCK_SIZE: usize = 32760;
+
+// The card after a session, how many events it had, whether anything was refused, and whether a read failed, which was
+// said.
+struct Outcome {
+    pub card: Card,
+    pub events: u64,
+    pub refused: bool,
+    pub failed: bool,
+}
+
+fn failed(c: Card) -> Outcome {
+    Outcome {
+        card: c,
+        events: 0,
+        refused: false,
+        failed: true,
+    }
+}
 
 // Plays the whole records of block after block; a torn last record is not an event. The loop counts its turns down from a
 // number that no run uses up, since nothing says that an input ends.
-fn play_all(c: Card, area: &mut [u8]) -> Entered
+fn play_all(c: Card, area: &mut [u8], fd: i32, label: &[u8]) -> Outcome
     requires { ⌜ Good areaSize c (now area) ⌝ }
 {
     let mut block = block_buffer();
     let mut lines = line_buffer();
     let mut last = Entered { card: c, count: 0 };
+    let mut noted = Noted {
+        events: 0,
+        refused: 0,
+    };
     let mut turns = u64::MAX;
     while 0 < turns {
-        let got = io::read_full(STDIN_FILENO, &mut block);
+        let got = edge::read_labelled(label, fd, &mut block);
         let card = last.card;
-        last = register::enter_all(card, area, &block[..got], last.count, &mut lines);
-        if got < BLOCK_SIZE {
-            return last;
+        if got.failed {
+            return failed(card);
+        }
+        let n = got.count;
+        last = register::enter_all(card, area, &block[..n], last.count, &mut lines);
+        noted = remarks::note_all(label, &block[..n], &lines, noted);
+        if n < BLOCK_SIZE {
+            let end = last.card;
+            return Outcome {
+                card: end,
+                events: noted.events,
+                refused: remarks::note_end(label, noted, n % register::RECORD_SIZE),
+                failed: false,
+            };
         }
         turns -= 1;
     }
-    last
+    failed(c)
 }
 
 // The buffers, each by what its user asks of it.
@@ -47,35 +79,63 @@ fn clear_area() -> [u8; 4096]
     [0; 4096]
 }
 
-fn block_buffer() -> [u8; 65520]
-    ensures { λ r. ⌜ 65520 ≡ length r ⌝ }
+fn block_buffer() -> [u8; 32760]
+    ensures { λ r. ⌜ 32760 ≡ length r ⌝ }
 {
-    [0; 65520]
+    [0; 32760]
 }
 
-fn line_buffer() -> [u8; 6552]
-    ensures { λ r. ⌜ 6552 ≡ length r ⌝ }
+fn line_buffer() -> [u8; 3276]
+    ensures { λ r. ⌜ 3276 ≡ length r ⌝ }
 {
-    [0; 6552]
+    [0; 3276]
 }
 
-// The card of the chip record after all events.
-fn show(chip: &[u8]) {
-    let made = fresh::fresh(chip);
-    if made.number != 0 {
-        write(
-            b"Refused, number 07: the input must begin with a chip record of 40 bytes, the last three zero.\n",
-        );
+// The card after all events, in words.
+fn show_card(c: Card, fd: i32, label: &[u8], tells: bool)
+    requires { ⌜ Good areaSize c (zeros areaSize) ⌝ }
+{
+    let mut area = clear_area();
+    let outcome = play_all(c, &mut area, fd, label);
+    if outcome.failed {
         return;
     }
-    let mut area = clear_area();
-    let last = play_all(made.card, &mut area);
-    write_facts(last.card, last.count);
-    write_table(last.card, &area);
+    let card = outcome.card;
+    let mut good = true;
+    write_facts(&mut good, card, outcome.events);
+    write_table(&mut good, card, &area);
+    if good {
+        edge::tell(tells, outcome.refused);
+    }
+}
+
+// The card of the chip record.
+fn show_session(chip: &[u8], fd: i32, label: &[u8], tells: bool) {
+    let made = fresh::fresh(chip);
+    if made.number != 0 {
+        remarks::note_chip(label, chip);
+        edge::tell(tells, true);
+        return;
+    }
+    show_card(made.card, fd, label, tells);
+}
+
+fn show(fd: i32, label: &[u8], tells: bool) {
+    let mut chip = [0u8; 40];
+    let got = edge::read_labelled(label, fd, &mut chip);
+    if got.failed {
+        return;
+    }
+    let n = got.count;
+    show_session(&chip[..n], fd, label, tells);
 }
 
 fn main() {
-    let mut chip = [0u8; 40];
-    let got = io::read_full(STDIN_FILENO, &mut chip);
-    show(&chip[..got]);
+    let mut label = edge::label_buffer();
+    let source = edge::started(b"show: ", &mut label);
+    if source.fd < 0 {
+        return;
+    }
+    let n = source.labelled;
+    show(source.fd, &label[..n], source.tells);
 }

@@ -1,7 +1,5 @@
-// The program `trace`: what `replay` reads, and of each event the whole state on a line. The tests compare it character
-// by character with the second program's.
-use libc::STDIN_FILENO;
-use libc::STDOUT_FILENO;
+// The program `trace [--tell] [FILE]`: what `replay` reads, and of each event the whole state on a line. The tests compare
+// it character by character with the second program's.
 use model::Card;
 use model::Descriptor;
 use model::Life;
@@ -9,6 +7,7 @@ use model::Loading;
 use model::Open;
 use model::Played;
 use model::Secret;
+use remarks::Noted;
 ghost use mathlib.Core.Path.{_≡_};
 ghost use Prim.Native.Nat.{_+_, _*_, _≤_, _<_};
 ghost use lib.ListN.{length};
@@ -312,10 +311,11 @@ fn put_line(out: &mut [u8], at: usize, p: Played, answer: &[u8], area: &[u8]) ->
     put_form(out, second, b" &&\n", &words)
 }
 
-// The card after a record, and the place behind its line.
+// The card after a record, the place behind its line, and whether it was refused.
 struct Traced {
     pub card: Card,
     pub end: usize,
+    pub refused: bool,
 }
 
 // One record is played, and its line stands from `at` on.
@@ -329,13 +329,21 @@ fn trace_one(c: Card, area: &mut [u8], r: &[u8], out: &mut [u8], at: usize) -> T
     Traced {
         card: card,
         end: put_line(out, at, p, &answer, area),
+        refused: p.number != 0,
     }
 }
 
+// The card after a block, what was noted of the session so far, and whether the block's lines went out.
+struct Block {
+    pub card: Card,
+    pub noted: Noted,
+    pub printed: bool,
+}
+
 // Plays the whole records of a block, and writes their lines. A torn last record is not an event.
-fn trace_all(mut c: Card, area: &mut [u8], records: &[u8]) -> Card
+fn trace_all(mut c: Card, area: &mut [u8], records: &[u8], label: &[u8], mut noted: Noted) -> Block
     requires { ⌜ Good areaSize c (now area) × (length (now records) ≤ 6240) ⌝ }
-    ensures { λ r. ⌜ Good areaSize r (now (area .exit)) ⌝ }
+    ensures { λ r. ⌜ Good areaSize (r .card) (now (area .exit)) ⌝ }
 {
     let mut lines = line_buffer();
     let mut end: usize = 0;
@@ -347,27 +355,62 @@ fn trace_all(mut c: Card, area: &mut [u8], records: &[u8]) -> Card
         let t = trace_one(c, area, r, &mut lines, end);
         c = t.card;
         end = t.end;
+        noted = remarks::note(label, r, t.refused, noted);
         i += 1;
     }
-    io::write_all(STDOUT_FILENO, &lines[..end]);
-    c
+    let printed = edge::print(b"trace: standard output", &lines[..end]);
+    Block {
+        card: c,
+        noted: noted,
+        printed: printed,
+    }
+}
+
+// How a session ended: whether anything was refused, and whether a read or a write failed, which was said.
+struct Outcome {
+    pub refused: bool,
+    pub failed: bool,
+}
+
+fn failed() -> Outcome {
+    Outcome {
+        refused: false,
+        failed: true,
+    }
 }
 
 // Block after block to the end of the input. The loop counts its turns down from a number that no run uses up, since
 // nothing says that an input ends.
-fn trace_blocks(mut c: Card, area: &mut [u8])
+fn trace_blocks(mut c: Card, area: &mut [u8], fd: i32, label: &[u8]) -> Outcome
     requires { ⌜ Good areaSize c (now area) ⌝ }
 {
     let mut block = block_buffer();
+    let mut noted = Noted {
+        events: 0,
+        refused: 0,
+    };
     let mut turns = u64::MAX;
     while 0 < turns {
-        let got = io::read_full(STDIN_FILENO, &mut block);
-        c = trace_all(c, area, &block[..got]);
-        if got < BLOCK_SIZE {
-            return;
+        let got = edge::read_labelled(label, fd, &mut block);
+        if got.failed {
+            return failed();
+        }
+        let n = got.count;
+        let b = trace_all(c, area, &block[..n], label, noted);
+        c = b.card;
+        noted = b.noted;
+        if !b.printed {
+            return failed();
+        }
+        if n < BLOCK_SIZE {
+            return Outcome {
+                refused: remarks::note_end(label, noted, n % RECORD_SIZE),
+                failed: false,
+            };
         }
         turns -= 1;
     }
+    failed()
 }
 
 // The buffers, each by what its user asks of it.
@@ -395,31 +438,67 @@ fn digit_buffer() -> [u8; 8192]
     [0; 8192]
 }
 
-// The last line: AREA and its bytes.
-fn show_area(area: &[u8])
+// The last line: AREA and its bytes. Whether it went out.
+fn show_area(area: &[u8]) -> bool
     requires { ⌜ length (now area) ≡ 4096 ⌝ }
 {
     let mut digits = digit_buffer();
     hex::put_hex(&mut digits, 0, area);
-    io::write_all(STDOUT_FILENO, b"AREA ");
-    io::write_all(STDOUT_FILENO, &digits);
-    io::write_all(STDOUT_FILENO, b"\n");
+    if edge::print(b"trace: standard output", b"AREA ") {
+        if edge::print(b"trace: standard output", &digits) {
+            return edge::print(b"trace: standard output", b"\n");
+        }
+    }
+    false
 }
 
-// The events of the card that the chip record gives, and the area after them.
-fn trace(chip: &[u8]) {
+// The events of the card that the chip record gives, and the area after them; whether that went out.
+fn trace_card(c: Card, fd: i32, label: &[u8]) -> Outcome
+    requires { ⌜ Good areaSize c (zeros areaSize) ⌝ }
+{
+    let mut area = clear_area();
+    let outcome = trace_blocks(c, &mut area, fd, label);
+    if outcome.failed {
+        return failed();
+    }
+    Outcome {
+        refused: outcome.refused,
+        failed: !show_area(&area),
+    }
+}
+
+fn trace_session(chip: &[u8], fd: i32, label: &[u8]) -> Outcome {
     let made = fresh::fresh(chip);
     if made.number != 0 {
-        io::write_all(STDOUT_FILENO, b"REFUSED 07\n");
+        remarks::note_chip(label, chip);
+        return Outcome {
+            refused: true,
+            failed: !edge::print(b"trace: standard output", b"REFUSED 07\n"),
+        };
+    }
+    trace_card(made.card, fd, label)
+}
+
+fn trace(fd: i32, label: &[u8], tells: bool) {
+    let mut chip = [0u8; 40];
+    let got = edge::read_labelled(label, fd, &mut chip);
+    if got.failed {
         return;
     }
-    let mut area = clear_area();
-    trace_blocks(made.card, &mut area);
-    show_area(&area);
+    let n = got.count;
+    let outcome = trace_session(&chip[..n], fd, label);
+    if outcome.failed {
+        return;
+    }
+    edge::tell(tells, outcome.refused);
 }
 
 fn main() {
-    let mut chip = [0u8; 40];
-    let got = io::read_full(STDIN_FILENO, &mut chip);
-    trace(&chip[..got]);
+    let mut label = edge::label_buffer();
+    let source = edge::started(b"trace: ", &mut label);
+    if source.fd < 0 {
+        return;
+    }
+    let n = source.labelled;
+    trace(source.fd, &label[..n], source.tells);
 }

@@ -1,52 +1,71 @@
+use Prim.Native.Nat.{ℕ, suc, _+_, _*_, _-_, _≤_, _<_, _/_, _%_}
+use mathlib.Core.Path.{_≡_, refl, ap, sym, _∙_}
+use mathlib.Core.List.{List, [], _∷_, _++_}
 use native.Mathlib.Omega.{arith}
-use lib.ListN.{length-take}
+use native.Mathlib.Numerals.{add-one}
+use lib.ListN.{length, take, drop, set, getD, length-set, length-take, length-drop, length-append}
 use denote.Ref.{now}
 use borrow.Author.Needs.{needs}
-use Rattle.cut.proofs.Rooms.{written-fits}
+use lib.Seq.{length-take-le}
 use Rattle.cut.proofs.cut.Statement.{statement}
 use Rattle.cut.proofs.cut.Tie as tie
+use Rattle.cut.proofs.cut.Reads as reads
+use Rattle.cut.proofs.cut.Lts as lts
+use Rattle.cut.proofs.print.Reads as print-reads
+use Rattle.cut.proofs.record_buffer.Reads as record-buffer-reads
+use Rattle.intake.proofs.chip_end.Reads as chip-end-reads
+use Rattle.intake.proofs.say_refused.Reads as say-refused-reads
+use Rattle.intake.proofs.why_of.Reads as why-of-reads
+use Rattle.job_session.proofs.lay_session.Reads as lay-session-reads
+
+chip-end-requires : tie.Need-chip-end-requires
+chip-end-requires c κs = search needs
+
+slice-aggregate-chip : tie.Need-slice-aggregate-chip
+slice-aggregate-chip c = sym (length-take-le _ _ (c .before .chip-end .ensures))
+
+sub-order : tie.Need-sub-order
+sub-order c = search needs
+
+part-order-start : tie.Need-part-order-start
+part-order-start c = search needs
+
+part-order-end : tie.Need-part-order-end
+part-order-end c = search needs
 
 record-buffer-requires : tie.Need-record-buffer-requires
 record-buffer-requires c κs = search needs
 
-slice-aggregate-write : tie.Need-slice-aggregate-write
-slice-aggregate-write c = search needs
+slice-aggregate-lay-session : tie.Need-slice-aggregate-lay-session
+slice-aggregate-lay-session c = search needs
 
-write-requires : tie.Need-write-requires
-write-requires c κs = search needs
+lay-session-requires : tie.Need-lay-session-requires
+lay-session-requires c κs = search needs
 
-say-requires : tie.Need-say-requires
-say-requires c κs = search needs
+why-of-requires : tie.Need-why-of-requires
+why-of-requires c κs = search needs
+
+say-refused-requires : tie.Need-say-refused-requires
+say-refused-requires c κs = search needs
 
 returns : tie.Need-returns
 returns c = search needs
 
-mul-room : tie.Need-mul-room
-mul-room c =
-    let write = c .before .before .before .before .write in
-    let record-buffer = c .before .before .before .before .before .before .record-buffer in
-    let args = c .before .before .before .before .before .before .before .before .before .args in
-    let h = written-fits (now (args .chip)) (now (args .order)) (record-buffer .result) _ _ (write .ensures) in
-    omega arith
+add-size : tie.Need-add-size
+add-size c = search needs
+
+mul-size : tie.Need-mul-size
+mul-size c = search needs
 
 array-share-prefix-room : tie.Need-array-share-prefix-room
-array-share-prefix-room c =
-    let write = c .before .before .before .before .write in
-    let record-buffer = c .before .before .before .before .before .before .record-buffer in
-    let args = c .before .before .before .before .before .before .before .before .before .args in
-    let h = written-fits (now (args .chip)) (now (args .order)) (record-buffer .result) _ _ (write .ensures) in
-    omega (arith, write .kept .1 .1 .0)
+array-share-prefix-room c = search needs
 
-slice-aggregate-print-job : tie.Need-slice-aggregate-print-job
-slice-aggregate-print-job c =
-    let write = c .before .before .before .before .before .write in
-    let record-buffer = c .before .before .before .before .before .before .before .record-buffer in
-    let args = c .before .before .before .before .before .before .before .before .before .before .args in
-    let h = written-fits (now (args .chip)) (now (args .order)) (record-buffer .result) _ _ (write .ensures) in
-    simp length-take (omega (arith, write .kept .1 .1 .0))
+slice-aggregate-print : tie.Need-slice-aggregate-print
+slice-aggregate-print c =
+    sym (length-take-le _ _ (omega (arith, c .before .before .before .before .before .lay-session .ensures .1, c .before .before .before .before .before .lay-session .kept .1 .1 .0, c .before .before .before .before .before .before .before .record-buffer .ensures)))
 
-print-job-requires : tie.Need-print-job-requires
-print-job-requires c κs = search needs
+print-requires : tie.Need-print-requires
+print-requires c κs = search needs
 
 returns-2 : tie.Need-returns-2
 returns-2 c = search needs
@@ -55,13 +74,20 @@ pub cut-spec : {M : Type 1} → statement M
 cut-spec =
     tie.close
     (tie.spec
+    chip-end-requires
+    slice-aggregate-chip
+    sub-order
+    part-order-start
+    part-order-end
     record-buffer-requires
-    slice-aggregate-write
-    write-requires
-    say-requires
+    slice-aggregate-lay-session
+    lay-session-requires
+    why-of-requires
+    say-refused-requires
     returns
-    mul-room
+    add-size
+    mul-size
     array-share-prefix-room
-    slice-aggregate-print-job
-    print-job-requires
+    slice-aggregate-print
+    print-requires
     returns-2)

@@ -1,65 +1,62 @@
 use native.Mathlib.Omega.{arith}
-use lib.ListN.{length-take, length-drop, length-append}
+use lib.ListN.{length-take}
 use borrow.Author.Needs.{needs}
 use Rattle.groupings.proofs.print_next.Statement.{statement}
 use Rattle.groupings.proofs.print_next.Tie as tie
 
-sub-read-full : tie.Need-sub-read-full
-sub-read-full c = search needs
+fill-requires : tie.Need-fill-requires
+fill-requires c κs = search needs
 
-part-read-full-start : tie.Need-part-read-full-start
-part-read-full-start c = search needs
+stopped-requires : tie.Need-stopped-requires
+stopped-requires c κs = search needs
 
-part-read-full-end : tie.Need-part-read-full-end
-part-read-full-end c = search needs
+same-length : tie.Need-same-length
+same-length c = search needs
 
-read-full-requires : tie.Need-read-full-requires
-read-full-requires c κs = search needs
-
-add-end : tie.Need-add-end
-add-end c = search needs
+returns : tie.Need-returns
+returns c = search needs
 
 slice-reshare-prefix-print-window : tie.Need-slice-reshare-prefix-print-window
 slice-reshare-prefix-print-window c = search needs
 
 slice-aggregate-print-window : tie.Need-slice-aggregate-print-window
-slice-aggregate-print-window c = simp (length-take, length-append, length-drop) (omega arith)
+slice-aggregate-print-window c = simp length-take (omega arith)
 
 print-window-requires : tie.Need-print-window-requires
-print-window-requires c κs =
-    (c .before .before .before .before .before .before .before .before .pre .1, simp (length-take, length-append, length-drop) (omega arith))
+print-window-requires c κs = search needs
 
 keep-requires : tie.Need-keep-requires
-keep-requires c κs =
-    let h = simp length-take at (c .before .before .before .print-window .ensures .0) in
-    (omega arith, simp (length-append, length-take, length-drop) (omega arith))
+keep-requires c κs = (omega (arith, simp length-take at (c .before .before .before .print-window .ensures .0)), search needs)
 
-goes-on-requires : tie.Need-goes-on-requires
-goes-on-requires c κs = search needs
+wrapping-add-u64-requires : tie.Need-wrapping-add-u64-requires
+wrapping-add-u64-requires c κs = search needs
 
-same-length : tie.Need-same-length
-same-length c = search needs
+began-at-requires : tie.Need-began-at-requires
+began-at-requires c κs = search needs
 
 same-length-2 : tie.Need-same-length-2
 same-length-2 c = search needs
 
-returns : tie.Need-returns
-returns c = search needs
+same-length-3 : tie.Need-same-length-3
+same-length-3 c = search needs
+
+returns-2 : tie.Need-returns-2
+returns-2 c = search needs
 
 pub print-next-spec : {M : Type 1} → statement M
 print-next-spec =
     tie.close
     (tie.spec
-    sub-read-full
-    part-read-full-start
-    part-read-full-end
-    read-full-requires
-    add-end
+    fill-requires
+    stopped-requires
+    same-length
+    returns
     slice-reshare-prefix-print-window
     slice-aggregate-print-window
     print-window-requires
     keep-requires
-    goes-on-requires
-    same-length
+    wrapping-add-u64-requires
+    began-at-requires
     same-length-2
-    returns)
+    same-length-3
+    returns-2)

@@ -7,6 +7,9 @@ use Rattle.replay.proofs.replayed.Tie as tie
 fresh-requires : tie.Need-fresh-requires
 fresh-requires c κs = search needs
 
+note-chip-requires : tie.Need-note-chip-requires
+note-chip-requires c κs = search needs
+
 returns : tie.Need-returns
 returns c = search needs
 
@@ -20,7 +23,7 @@ play-all-requires : tie.Need-play-all-requires
 play-all-requires c κs =
     let clear-area = c .before .clear-area in
     let fresh = c .before .before .before .before .fresh in
-    let chip = now (c .before .before .before .before .before .before .args .chip) in
+    let chip = now (c .before .before .before .before .before .before .before .args .chip) in
     rw (fresh .ensures, clear-area .ensures .0) (fresh-keeps chip)
 
 returns-2 : tie.Need-returns-2
@@ -31,6 +34,7 @@ replayed-spec =
     tie.close
     (tie.spec
     fresh-requires
+    note-chip-requires
     returns
     clear-area-requires
     slice-aggregate-play-all

@@ -24,9 +24,9 @@ same-length-2 c = search needs
 
 returns : tie.Need-returns
 returns c =
-    let put-line = c .before .before .put-line in
-    let turn = c .before .before .before .before .before .before .before .before .before .before .turn in
-    let s = c .before .before .before .before .before .before .before .before .before .before .before .before .before .before .before .before in
+    let put-line = c .before .before .before .put-line in
+    let turn = c .before .before .before .before .before .before .before .before .before .before .before .turn in
+    let s = c .before .before .before .before .before .before .before .before .before .before .before .before .before .before .before .before .before in
     let p = turn .ensures in
     (rw (p .leaves, p .keeps) (turn-keeps (s .args .c) (now (s .args .area)) (now (s .args .r)) (s .pre .0)), put-line .ensures)
 

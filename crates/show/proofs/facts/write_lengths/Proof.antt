@@ -4,10 +4,11 @@ use Rattle.show.proofs.facts.write_lengths.Statement.{statement}
 use Rattle.show.proofs.facts.write_lengths.Tie as tie
 
 abbrev Inv-loop : tie.InvT-loop
-Inv-loop secrets i₀ i = i ≤ 5
+Inv-loop good₀ secrets i₀ good i =
+    i ≤ 5
 
 abbrev μ-loop : tie.MeasureT-loop
-μ-loop secrets i₀ i = 5 - i
+μ-loop good₀ secrets i₀ good i = 5 - i
 
 loop-holds : tie.Need-loop-holds Inv-loop μ-loop
 loop-holds c = search needs

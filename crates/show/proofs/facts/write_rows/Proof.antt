@@ -4,10 +4,11 @@ use Rattle.show.proofs.facts.write_rows.Statement.{statement}
 use Rattle.show.proofs.facts.write_rows.Tie as tie
 
 abbrev Inv-loop : tie.InvT-loop
-Inv-loop rows last r₀ r = r ≤ 11
+Inv-loop good₀ rows last r₀ good r =
+    r ≤ 11
 
 abbrev μ-loop : tie.MeasureT-loop
-μ-loop rows last r₀ r = 11 - r
+μ-loop good₀ rows last r₀ good r = 11 - r
 
 loop-holds : tie.Need-loop-holds Inv-loop μ-loop
 loop-holds c = search needs

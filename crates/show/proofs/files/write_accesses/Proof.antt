@@ -4,10 +4,11 @@ use Rattle.show.proofs.files.write_accesses.Statement.{statement}
 use Rattle.show.proofs.files.write_accesses.Tie as tie
 
 abbrev Inv-loop : tie.InvT-loop
-Inv-loop ac nkey i₀ i = i ≤ 4
+Inv-loop good₀ ac nkey i₀ good i =
+    i ≤ 4
 
 abbrev μ-loop : tie.MeasureT-loop
-μ-loop ac nkey i₀ i = 4 - i
+μ-loop good₀ ac nkey i₀ good i = 4 - i
 
 loop-holds : tie.Need-loop-holds Inv-loop μ-loop
 loop-holds c = search needs

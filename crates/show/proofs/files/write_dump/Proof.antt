@@ -5,10 +5,11 @@ use Rattle.show.proofs.files.write_dump.Statement.{statement}
 use Rattle.show.proofs.files.write_dump.Tie as tie
 
 abbrev Inv-loop : tie.InvT-loop
-Inv-loop bytes i₀ t3 t4 i = Unit {0}
+Inv-loop good₀ bytes i₀ t4 t5 good i =
+    Unit {0}
 
 abbrev μ-loop : tie.MeasureT-loop
-μ-loop bytes i₀ t3 t4 i = length bytes - i
+μ-loop good₀ bytes i₀ t4 t5 good i = length bytes - i
 
 loop-holds : tie.Need-loop-holds Inv-loop μ-loop
 loop-holds c = search needs

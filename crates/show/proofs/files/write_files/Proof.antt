@@ -4,10 +4,11 @@ use Rattle.show.proofs.files.write_files.Statement.{statement}
 use Rattle.show.proofs.files.write_files.Tie as tie
 
 abbrev Inv-loop : tie.InvT-loop
-Inv-loop c area count files i₀ i = i ≤ count
+Inv-loop good₀ c area count files i₀ good i =
+    i ≤ count
 
 abbrev μ-loop : tie.MeasureT-loop
-μ-loop c area count files i₀ i = count - i
+μ-loop good₀ c area count files i₀ good i = count - i
 
 loop-holds : tie.Need-loop-holds Inv-loop μ-loop
 loop-holds c = search needs

@@ -4,10 +4,11 @@ use Rattle.show.proofs.files.write_records.Statement.{statement}
 use Rattle.show.proofs.files.write_records.Tie as tie
 
 abbrev Inv-loop : tie.InvT-loop
-Inv-loop c area sfi last nn₀ nn = Unit {0}
+Inv-loop good₀ c area sfi last nn₀ good nn =
+    Unit {0}
 
 abbrev μ-loop : tie.MeasureT-loop
-μ-loop c area sfi last nn₀ nn = last - nn
+μ-loop good₀ c area sfi last nn₀ good nn = last - nn
 
 loop-holds : tie.Need-loop-holds Inv-loop μ-loop
 loop-holds c = search needs

@@ -6,11 +6,11 @@ use Rattle.show.proofs.form.put_form.Statement.{statement}
 use Rattle.show.proofs.form.put_form.Tie as tie
 
 abbrev Inv-loop : tie.InvT-loop
-Inv-loop line₀ form values used₀ place₀ next₀ i₀ line used place next i =
+Inv-loop good₀ line₀ form values used₀ place₀ next₀ i₀ good line used place next i =
     (used ≤ length line) × (length line ≡ length line₀) × (next ≤ i) × (i ≤ length form)
 
 abbrev μ-loop : tie.MeasureT-loop
-μ-loop line₀ form values used₀ place₀ next₀ i₀ line used place next i = length form - i
+μ-loop good₀ line₀ form values used₀ place₀ next₀ i₀ good line used place next i = length form - i
 
 loop-holds : tie.Need-loop-holds Inv-loop μ-loop
 loop-holds c = search needs

@@ -40,13 +40,13 @@ put-bytes-requires-2 : tie.Need-put-bytes-requires-2
 put-bytes-requires-2 c κs = omega (arith, ends (c .before .before), c .before .before .before .before .before .before .before .before .before .before .before .before .before .pre)
 
 add-line : tie.Need-add-line
-add-line c = omega (arith, ends (c .before .before .before .before), c .before .before .before .before .before .before .before .before .before .before .before .before .before .before .before .pre)
+add-line c = omega (arith, ends (c .before .before .before .before .before), c .before .before .before .before .before .before .before .before .before .before .before .before .before .before .before .before .pre)
 
 array-share-prefix-line : tie.Need-array-share-prefix-line
-array-share-prefix-line c = omega (arith, ends (c .before .before .before .before), c .before .before .before .before .before .before .before .before .before .before .before .before .before .before .before .pre)
+array-share-prefix-line c = omega (arith, ends (c .before .before .before .before .before), c .before .before .before .before .before .before .before .before .before .before .before .before .before .before .before .before .pre)
 
 slice-aggregate-write : tie.Need-slice-aggregate-write
-slice-aggregate-write c = simp length-take (omega (arith, ends (c .before .before .before .before .before), c .before .before .before .before .before .before .before .before .before .before .before .before .before .before .before .before .pre))
+slice-aggregate-write c = simp length-take (omega (arith, ends (c .before .before .before .before .before .before), c .before .before .before .before .before .before .before .before .before .before .before .before .before .before .before .before .before .pre))
 
 write-requires : tie.Need-write-requires
 write-requires c κs = search needs

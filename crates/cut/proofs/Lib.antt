@@ -1,3 +1,0 @@
--- The records before the writer's, and the room of those.
-pub mod Laid
-pub mod Rooms

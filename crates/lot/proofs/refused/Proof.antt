@@ -1,0 +1,104 @@
+use Prim.Native.Nat.{ℕ, suc, _+_, _*_, _-_, _≤_, _<_, _/_, _%_}
+use mathlib.Core.Path.{_≡_, refl, ap, sym, _∙_}
+use mathlib.Core.List.{List, [], _∷_, _++_}
+use native.Mathlib.Omega.{arith}
+use native.Mathlib.Numerals.{add-one}
+use lib.ListN.{length, take, drop, set, getD, length-set, length-take, length-drop, length-append}
+use denote.Ref.{now}
+use borrow.Author.Needs.{needs}
+use lib.Seq.{length-take-le}
+use Rattle.lot.proofs.refused.Statement.{statement}
+use Rattle.lot.proofs.refused.Tie as tie
+use Rattle.lot.proofs.refused.Reads as reads
+use Rattle.lot.proofs.refused.Lts as lts
+use Rattle.edge.proofs.label_buffer.Reads as label-buffer-reads
+use Rattle.intake.proofs.chip_end.Reads as chip-end-reads
+use Rattle.intake.proofs.say_refused.Reads as say-refused-reads
+use Rattle.intake.proofs.why_of.Reads as why-of-reads
+use Rattle.lot.proofs.line.put_name.Reads as put-name-reads
+use Rattle.lot.proofs.line.put_refused.Reads as put-refused-reads
+use Rattle.lot.proofs.removed.Reads as removed-reads
+use Rattle.lot.proofs.told.Reads as told-reads
+use Rattle.lot.proofs.undone.Reads as undone-reads
+
+chip-end-requires : tie.Need-chip-end-requires
+chip-end-requires c κs = search needs
+
+slice-aggregate-chip : tie.Need-slice-aggregate-chip
+slice-aggregate-chip c = sym (length-take-le _ _ (c .before .chip-end .ensures))
+
+sub-why-of : tie.Need-sub-why-of
+sub-why-of c = search needs
+
+part-why-of-start : tie.Need-part-why-of-start
+part-why-of-start c = search needs
+
+part-why-of-end : tie.Need-part-why-of-end
+part-why-of-end c = search needs
+
+why-of-requires : tie.Need-why-of-requires
+why-of-requires c κs = search needs
+
+say-refused-requires : tie.Need-say-refused-requires
+say-refused-requires c κs = search needs
+
+removed-requires : tie.Need-removed-requires
+removed-requires c κs = search needs
+
+label-buffer-requires : tie.Need-label-buffer-requires
+label-buffer-requires c κs = search needs
+
+slice-aggregate-put-name : tie.Need-slice-aggregate-put-name
+slice-aggregate-put-name c = search needs
+
+put-name-requires : tie.Need-put-name-requires
+put-name-requires c κs = search needs
+
+slice-aggregate-put-refused : tie.Need-slice-aggregate-put-refused
+slice-aggregate-put-refused c = search needs
+
+put-refused-requires : tie.Need-put-refused-requires
+put-refused-requires c κs = search needs
+
+array-share-prefix-line : tie.Need-array-share-prefix-line
+array-share-prefix-line c = search needs
+
+slice-aggregate-told : tie.Need-slice-aggregate-told
+slice-aggregate-told c =
+    sym (length-take-le _ _ (omega (arith, c .before .before .put-refused .ensures .1, c .before .before .put-refused .kept .0)))
+
+told-requires : tie.Need-told-requires
+told-requires c κs = search needs
+
+returns : tie.Need-returns
+returns c = search needs
+
+undone-requires : tie.Need-undone-requires
+undone-requires c κs = search needs
+
+returns-2 : tie.Need-returns-2
+returns-2 c = search needs
+
+pub refused-spec : {M : Type 1} → statement M
+refused-spec =
+    tie.close
+    (tie.spec
+    chip-end-requires
+    slice-aggregate-chip
+    sub-why-of
+    part-why-of-start
+    part-why-of-end
+    why-of-requires
+    say-refused-requires
+    removed-requires
+    label-buffer-requires
+    slice-aggregate-put-name
+    put-name-requires
+    slice-aggregate-put-refused
+    put-refused-requires
+    array-share-prefix-line
+    slice-aggregate-told
+    told-requires
+    returns
+    undone-requires
+    returns-2)

@@ -1,0 +1,158 @@
+use Prim.Native.Nat.{ℕ, suc, _+_, _*_, _-_, _≤_, _<_, _/_, _%_}
+use mathlib.Core.Path.{_≡_, refl, ap, sym, _∙_}
+use mathlib.Core.List.{List, [], _∷_, _++_}
+use native.Mathlib.Omega.{arith}
+use native.Mathlib.Numerals.{add-one}
+use lib.ListN.{length, take, drop, set, getD, length-set, length-take, length-drop, length-append}
+use denote.Ref.{now}
+use borrow.Author.Needs.{needs}
+use lib.Seq.{length-take-le}
+use Rattle.lot.proofs.taken.Statement.{statement}
+use Rattle.lot.proofs.taken.Tie as tie
+use Rattle.lot.proofs.taken.Reads as reads
+use Rattle.lot.proofs.taken.Lts as lts
+use Rattle.intake.proofs.is_text_name.Reads as is-text-name-reads
+use Rattle.intake.proofs.say_unread.Reads as say-unread-reads
+use Rattle.intake.proofs.take.Reads as take-reads
+use Rattle.libc.proofs.close.Reads as close-reads
+use Rattle.lot.proofs.enter.Reads as enter-reads
+use Rattle.lot.proofs.lines_of.Reads as lines-of-reads
+use Rattle.lot.proofs.removed.Reads as removed-reads
+use Rattle.lot.proofs.undone.Reads as undone-reads
+use Rattle.os.proofs.fail.Reads as fail-reads
+use Rattle.os.proofs.open_read.Reads as open-read-reads
+
+open-read-requires : tie.Need-open-read-requires
+open-read-requires c κs = search needs
+
+fail-requires : tie.Need-fail-requires
+fail-requires c κs = search needs
+
+undone-requires : tie.Need-undone-requires
+undone-requires c κs = search needs
+
+returns : tie.Need-returns
+returns c = search needs
+
+is-text-name-requires : tie.Need-is-text-name-requires
+is-text-name-requires c κs = search needs
+
+take-requires : tie.Need-take-requires
+take-requires c κs = search needs
+
+say-unread-requires : tie.Need-say-unread-requires
+say-unread-requires c κs = search needs
+
+close-requires : tie.Need-close-requires
+close-requires c κs = search needs
+
+lines-of-requires : tie.Need-lines-of-requires
+lines-of-requires c κs = search needs
+
+slice-reshare-prefix-enter : tie.Need-slice-reshare-prefix-enter
+slice-reshare-prefix-enter c = search needs
+
+slice-aggregate-enter : tie.Need-slice-aggregate-enter
+slice-aggregate-enter c =
+    sym (length-take-le _ _ (omega (arith, c .before .before .before .before .before .before .before .before .before .before .before .take .ensures, c .before .before .before .before .before .before .before .before .before .before .before .take .kept .1 .1 .0)))
+
+slice-reshare-prefix-enter-2 : tie.Need-slice-reshare-prefix-enter-2
+slice-reshare-prefix-enter-2 c = search needs
+
+slice-aggregate-enter-2 : tie.Need-slice-aggregate-enter-2
+slice-aggregate-enter-2 c =
+    sym (length-take-le _ _ (omega (arith, c .before .before .lines-of .ensures, c .before .before .before .before .before .before .before .before .before .before .before .before .take .ensures, c .before .before .before .before .before .before .before .before .before .before .before .before .take .kept .1 .1 .1 .0, c .before .before .before .before .before .before .before .before .before .before .before .before .before .before .before .before .before .before .before .before .before .before .before .before .before .before .pre)))
+
+enter-requires : tie.Need-enter-requires
+enter-requires c κs = search needs
+
+same-length : tie.Need-same-length
+same-length c = search needs
+
+same-length-2 : tie.Need-same-length-2
+same-length-2 c = search needs
+
+same-length-3 : tie.Need-same-length-3
+same-length-3 c = search needs
+
+same-length-4 : tie.Need-same-length-4
+same-length-4 c = search needs
+
+returns-2 : tie.Need-returns-2
+returns-2 c = search needs
+
+undone-requires-2 : tie.Need-undone-requires-2
+undone-requires-2 c κs = search needs
+
+same-length-5 : tie.Need-same-length-5
+same-length-5 c = search needs
+
+same-length-6 : tie.Need-same-length-6
+same-length-6 c = search needs
+
+returns-3 : tie.Need-returns-3
+returns-3 c = search needs
+
+removed-requires : tie.Need-removed-requires
+removed-requires c κs = search needs
+
+undone-requires-3 : tie.Need-undone-requires-3
+undone-requires-3 c κs = search needs
+
+same-length-7 : tie.Need-same-length-7
+same-length-7 c = search needs
+
+same-length-8 : tie.Need-same-length-8
+same-length-8 c = search needs
+
+returns-4 : tie.Need-returns-4
+returns-4 c = search needs
+
+undone-requires-4 : tie.Need-undone-requires-4
+undone-requires-4 c κs = search needs
+
+same-length-9 : tie.Need-same-length-9
+same-length-9 c = search needs
+
+same-length-10 : tie.Need-same-length-10
+same-length-10 c = search needs
+
+returns-5 : tie.Need-returns-5
+returns-5 c = search needs
+
+pub taken-spec : {M : Type 1} → statement M
+taken-spec =
+    tie.close
+    (tie.spec
+    open-read-requires
+    fail-requires
+    undone-requires
+    returns
+    is-text-name-requires
+    take-requires
+    say-unread-requires
+    close-requires
+    lines-of-requires
+    slice-reshare-prefix-enter
+    slice-aggregate-enter
+    slice-reshare-prefix-enter-2
+    slice-aggregate-enter-2
+    enter-requires
+    same-length
+    same-length-2
+    same-length-3
+    same-length-4
+    returns-2
+    undone-requires-2
+    same-length-5
+    same-length-6
+    returns-3
+    removed-requires
+    undone-requires-3
+    same-length-7
+    same-length-8
+    returns-4
+    undone-requires-4
+    same-length-9
+    same-length-10
+    returns-5)
