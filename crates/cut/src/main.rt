@@ -7,13 +7,6 @@ ghost use Prim.Native.Nat.{_≤_};
 // INSTALL and SELECT stand before the writer's records.
 const FIRST_RECORDS: usize = 2;
 
-// The statuses: done, refused by a number, not done.
-const DONE: u8 = 0;
-
-const REFUSED: u8 = 1;
-
-const NOT_DONE: u8 = 2;
-
 // The buffers, each by what its user asks of it.
 fn job_buffer() -> [u8; 8233]
     ensures { λ r. ⌜ 8233 ≡ length r ⌝ }
@@ -37,10 +30,10 @@ fn record_buffer() -> [u8; 12220]
 fn print(chip: &[u8], records: &[u8]) -> u8 {
     if edge::print(b"cut: standard output", chip) {
         if edge::print(b"cut: standard output", records) {
-            return DONE;
+            return edge::DONE;
         }
     }
-    NOT_DONE
+    edge::NOT_DONE
 }
 
 // A job's session, or its refusal. `lines` are those of its text, none where it is no text.
@@ -53,7 +46,7 @@ fn cut(label: &[u8], job: &[u8], lines: &[u32]) -> u8 {
     if written.number != 0 {
         let why = intake::why_of(written.number, chip, order);
         intake::say_refused(label, written.number, chip, why, lines);
-        return REFUSED;
+        return edge::REFUSED;
     }
     let size = (written.count + FIRST_RECORDS) * job_session::RECORD_SIZE;
     print(chip, &room[..size])
@@ -75,7 +68,7 @@ fn run(label: &[u8], fd: i32, is_text: bool) -> u8 {
     let job = intake::take(fd, is_text, &mut room, &mut lines);
     if job.fault != intake::FINE {
         intake::say_unread(label, job);
-        return NOT_DONE;
+        return edge::NOT_DONE;
     }
     let known = lines_of(job.count, is_text);
     cut(label, &room[..job.count], &lines[..known])
@@ -85,9 +78,9 @@ fn main() {
     let mut label = edge::label_buffer();
     let start = intake::started(b"cut: ", &mut label);
     if start.fd < 0 {
-        edge::tell_status(start.tells, NOT_DONE);
+        edge::tell(start.tells, edge::NOT_DONE);
         return;
     }
     let status = run(&label[..start.labelled], start.fd, start.is_text);
-    edge::tell_status(start.tells, status);
+    edge::tell(start.tells, status);
 }

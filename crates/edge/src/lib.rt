@@ -157,20 +157,22 @@ pub fn print(label: &[u8], bytes: &[u8]) -> bool {
     false
 }
 
-// The last act of a program that was asked to tell: 1 where something was refused by a number, else 0. Who hears
-// nothing knows that a read or a write failed.
-pub fn tell(asked: bool, refused: bool) {
-    if asked {
-        if refused {
-            write_whole(STATUS_FILENO, b"1\n");
-        } else {
-            write_whole(STATUS_FILENO, b"0\n");
-        }
+// The statuses: done; something was refused by a number; not done, which was said on standard error.
+pub const DONE: u8 = 0;
+
+pub const REFUSED: u8 = 1;
+
+pub const NOT_DONE: u8 = 2;
+
+pub fn status_of(refused: bool) -> u8 {
+    if refused {
+        return REFUSED;
     }
+    DONE
 }
 
-// The same by the status itself: 0 done, 1 refused by a number, 2 not done, which was said on standard error.
-pub fn tell_status(asked: bool, status: u8) {
+// The last act of a program that was asked to tell its status. Who hears nothing knows that it did not come to its end.
+pub fn tell(asked: bool, status: u8) {
     if asked {
         let digit = b'0' + status % 10;
         write_whole(STATUS_FILENO, &[digit, b'\n']);

@@ -1,5 +1,5 @@
-// The program `groupings [--tell] [FILE]`: an order is read, a line a pull is written to standard output, and last which
-// ending it has. It streams: an order of any length, in the memory of one window and one buffer.
+// The program `groupings [--tell] [FILE]`: an order is read, a line a pull is written to standard output, and last
+// which ending it has. It streams: an order of any length, in the memory of one window and one buffer.
 use model::Header;
 ghost use mathlib.Core.Path.{_≡_};
 ghost use Prim.Native.Nat.{_+_, _*_, _≤_, _<_};
@@ -429,32 +429,35 @@ fn text_buffer() -> [u8; 16384]
     [0; 16384]
 }
 
-fn groupings(fd: i32, label: &[u8], tells: bool) {
+fn groupings(fd: i32, label: &[u8]) -> u8 {
     let mut window = window_buffer();
     let mut out = text_buffer();
     let s = print_order(&mut window, &mut out, fd, label);
     if s.failed {
-        return;
+        return edge::NOT_DONE;
     }
     let rest = read_rest(&mut window, s.ended, fd, label);
     if rest.failed {
-        return;
+        return edge::NOT_DONE;
     }
     if print_ending(&out, s) {
         let torn = is_torn(s);
         if torn {
             say_torn(label, s, rest.count);
         }
-        edge::tell(tells, torn);
+        return edge::status_of(torn);
     }
+    edge::NOT_DONE
 }
 
 fn main() {
     let mut label = edge::label_buffer();
     let source = edge::started(b"groupings: ", &mut label);
     if source.fd < 0 {
+        edge::tell(source.tells, edge::NOT_DONE);
         return;
     }
     let n = source.labelled;
-    groupings(source.fd, &label[..n], source.tells);
+    let status = groupings(source.fd, &label[..n]);
+    edge::tell(source.tells, status);
 }

@@ -157,8 +157,21 @@ fn message_buffer() -> [u8; 4864]
 pub fn say_refused(label: &[u8], number: u8, chip: &[u8], why: Why, lines: &[u32]) {
     let mut line = message_buffer();
     let labelled = edge::put_text(&mut line, 0, label);
-    let numbered = wording::put_form(&mut line, labelled, b": refused by number #: ", number as u64, 0);
-    let worded = wording::put_refusal(&mut line, numbered, number, chip.len(), why, stop_line(lines, why));
+    let numbered = wording::put_form(
+        &mut line,
+        labelled,
+        b": refused by number #: ",
+        number as u64,
+        0,
+    );
+    let worded = wording::put_refusal(
+        &mut line,
+        numbered,
+        number,
+        chip.len(),
+        why,
+        stop_line(lines, why),
+    );
     let end = edge::put_text(&mut line, worded, b"\n");
     edge::say(&line[..end], b"");
 }
@@ -172,10 +185,18 @@ pub fn say_unread(label: &[u8], job: Job) {
     }
     let place = [job.line as u64, job.column as u64];
     if job.fault == HALF {
-        edge::say_form(label, b": line #, column #: half a byte: the digit stands alone\n", &place);
+        edge::say_form(
+            label,
+            b": line #, column #: half a byte: the digit stands alone\n",
+            &place,
+        );
         return;
     }
-    edge::say_form(label, b": line #, column #: not a hexadecimal digit\n", &place);
+    edge::say_form(
+        label,
+        b": line #, column #: not a hexadecimal digit\n",
+        &place,
+    );
 }
 
 // Whether a name ends in .txt.

@@ -8,13 +8,6 @@ const LINE_SIZE: usize = 26;
 
 const END_SIZE: usize = 10;
 
-// The statuses: done, refused by a number, not done.
-const DONE: u8 = 0;
-
-const REFUSED: u8 = 1;
-
-const NOT_DONE: u8 = 2;
-
 // The buffers, each by what its user asks of it.
 fn job_buffer() -> [u8; 8233]
     ensures { λ r. ⌜ 8233 ≡ length r ⌝ }
@@ -51,12 +44,12 @@ fn print_register(out: &[u8], gp: u8, internal: u8) -> u8 {
     if edge::print(b"job: standard output", out) {
         if gp == 0x07 {
             if internal == 0xA5 {
-                return DONE;
+                return edge::DONE;
             }
         }
-        return REFUSED;
+        return edge::REFUSED;
     }
-    NOT_DONE
+    edge::NOT_DONE
 }
 
 // A job, and the lines of its text, none where it is no text.
@@ -71,7 +64,7 @@ fn enter(label: &[u8], job: &[u8], lines: &[u32]) -> u8 {
     if entry.number != 0 {
         let why = intake::why_of(entry.number, chip, order);
         intake::say_refused(label, entry.number, chip, why, lines);
-        return REFUSED;
+        return edge::REFUSED;
     }
     let size = entry.events * LINE_SIZE + END_SIZE;
     print_register(&out[..size], entry.gp, entry.internal)
@@ -93,7 +86,7 @@ fn run(label: &[u8], fd: i32, is_text: bool) -> u8 {
     let job = intake::take(fd, is_text, &mut room, &mut lines);
     if job.fault != intake::FINE {
         intake::say_unread(label, job);
-        return NOT_DONE;
+        return edge::NOT_DONE;
     }
     let known = lines_of(job.count, is_text);
     enter(label, &room[..job.count], &lines[..known])
@@ -103,9 +96,9 @@ fn main() {
     let mut label = edge::label_buffer();
     let start = intake::started(b"job: ", &mut label);
     if start.fd < 0 {
-        edge::tell_status(start.tells, NOT_DONE);
+        edge::tell(start.tells, edge::NOT_DONE);
         return;
     }
     let status = run(&label[..start.labelled], start.fd, start.is_text);
-    edge::tell_status(start.tells, status);
+    edge::tell(start.tells, status);
 }

@@ -135,9 +135,9 @@ module _ (chip order room : List ℕ) (f : ℕ) (e : f ≡ min frontSize (length
           number = wrote-so .number;
           count = wrote-so .count;
           room =
-            l ∙ ap (λ (x : List ℕ). overwrite x 0 (installRecord ++ selectRecord)) (back-laid k)
-            ∙ behind-front (installRecord ++ selectRecord) y room f n k (omega arith)
-            ∙ rw (eq-eqb (writing chip order room .number) 0 o, session-joined (writing chip order room .records));
+              l ∙ ap (λ (x : List ℕ). overwrite x 0 (installRecord ++ selectRecord)) (back-laid k)
+              ∙ behind-front (installRecord ++ selectRecord) y room f n k (omega arith)
+              ∙ rw (eq-eqb (writing chip order room .number) 0 o, session-joined (writing chip order room .records));
         }
 
 -- a session that is laid: its length, the room that it had, and that it is short

@@ -55,7 +55,13 @@ pub fn put_entered(line: &mut [u8], at: usize, entry: Entry) -> usize
     ensures { λ r. ⌜ Counts r (now (line .exit)) ⌝ }
 {
     let serial = entry.serial;
-    let life = wording::put_form(line, at, b"\t0\t$\t$\t", entry.gp as u64, entry.internal as u64);
+    let life = wording::put_form(
+        line,
+        at,
+        b"\t0\t$\t$\t",
+        entry.gp as u64,
+        entry.internal as u64,
+    );
     let events = wording::put_form(line, life, b"#\t", entry.events as u64, 0);
     let end = put_serial(line, events, serial);
     edge::put_text(line, end, b"\t-\t-\t-\n")
@@ -110,5 +116,11 @@ pub fn put_undone(line: &mut [u8], at: usize, row: u32, column: u32) -> usize
     if row == 0 {
         return wording::put_form(line, at, b"\t-\t-\t-\t0\t-\t-\t-\t-\n", 0, 0);
     }
-    wording::put_form(line, at, b"\t-\t-\t-\t0\t-\t#:#\t-\t-\n", row as u64, column as u64)
+    wording::put_form(
+        line,
+        at,
+        b"\t-\t-\t-\t0\t-\t#:#\t-\t-\n",
+        row as u64,
+        column as u64,
+    )
 }

@@ -219,7 +219,16 @@ fn taken(
     libc::close(fd);
     if taken.fault == intake::FINE {
         let known = lines_of(taken.count, is_text);
-        return enter(name, label, folder, path, &job[..taken.count], &lines[..known], room, area);
+        return enter(
+            name,
+            label,
+            folder,
+            path,
+            &job[..taken.count],
+            &lines[..known],
+            room,
+            area,
+        );
     }
     if taken.fault == intake::UNREAD {
         return undone(name, 0, 0);
@@ -253,7 +262,16 @@ fn one(
             return kept(name, events);
         }
     }
-    taken(name, &label[..labelled], folder, &path[..n], job, lines, room, area)
+    taken(
+        name,
+        &label[..labelled],
+        folder,
+        &path[..n],
+        job,
+        lines,
+        room,
+        area,
+    )
 }
 
 // The jobs so far, by how they ended.

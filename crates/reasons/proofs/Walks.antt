@@ -61,13 +61,13 @@ module _ (capacity : ℕ) (d : List ℕ) (s : State) where
     -- it was not taken
     pub why-asks : (tag : ℕ) (t : State) → asked tag t ≡ grouping capacity (length d) 0x00 (drop i d) s
         → whyFrom turns capacity (length d) place (drop i d) s
-          ≡ Stops (stopOf (s .load .rows) (s .load .last) (fileList (s .load)) (fileList (t .load)) (t .load .count) 0x9000 (i - 3) (drop i d))
+        ≡ Stops (stopOf (s .load .rows) (s .load .last) (fileList (s .load)) (fileList (t .load)) (t .load .count) 0x9000 (i - 3) (drop i d))
     unfolding stopsAt
     why-asks tag t e = turn ∙ rw (← e, place-so)
 
     pub why-fails : (w : ℕ) (t : State) → failed w t ≡ grouping capacity (length d) 0x00 (drop i d) s
         → whyFrom turns capacity (length d) place (drop i d) s
-          ≡ Stops (stopOf (s .load .rows) (s .load .last) (fileList (s .load)) (fileList (t .load)) (t .load .count) w (i - 3) (drop i d))
+        ≡ Stops (stopOf (s .load .rows) (s .load .last) (fileList (s .load)) (fileList (t .load)) (t .load .count) w (i - 3) (drop i d))
     unfolding stopsAt
     why-fails w t e = turn ∙ rw (← e, place-so)
 

@@ -13,8 +13,8 @@ ghost use Rattle.soundness.specs.Keeps.{Good};
 // 126 records, and their lines.
 const BLOCK_SIZE: usize = 32760;
 
-// How playing a session ended: the number of events by its last five digits, whether anything was refused, and whether a
-// read or a write failed, which was said.
+// How playing a session ended: the number of events by its last five digits, whether anything was refused, and whether
+// a read or a write failed, which was said.
 struct Outcome {
     pub count: u64,
     pub refused: bool,
@@ -115,28 +115,31 @@ fn print_end(count: u64) -> bool {
     edge::print(b"replay: standard output", &end)
 }
 
-fn replay(fd: i32, label: &[u8], tells: bool) {
+fn replay(fd: i32, label: &[u8]) -> u8 {
     let mut chip = [0u8; 40];
     let got = edge::read_labelled(label, fd, &mut chip);
     if got.failed {
-        return;
+        return edge::NOT_DONE;
     }
     let n = got.count;
     let outcome = replayed(&chip[..n], fd, label);
     if outcome.failed {
-        return;
+        return edge::NOT_DONE;
     }
     if print_end(outcome.count) {
-        edge::tell(tells, outcome.refused);
+        return edge::status_of(outcome.refused);
     }
+    edge::NOT_DONE
 }
 
 fn main() {
     let mut label = edge::label_buffer();
     let source = edge::started(b"replay: ", &mut label);
     if source.fd < 0 {
+        edge::tell(source.tells, edge::NOT_DONE);
         return;
     }
     let n = source.labelled;
-    replay(source.fd, &label[..n], source.tells);
+    let status = replay(source.fd, &label[..n]);
+    edge::tell(source.tells, status);
 }

@@ -36,8 +36,8 @@ fn failed(c: Card) -> Outcome {
     }
 }
 
-// Plays the whole records of block after block; a torn last record is not an event. The loop counts its turns down from a
-// number that no run uses up, since nothing says that an input ends.
+// Plays the whole records of block after block; a torn last record is not an event. The loop counts its turns down
+// from a number that no run uses up, since nothing says that an input ends.
 fn play_all(c: Card, area: &mut [u8], fd: i32, label: &[u8]) -> Outcome
     requires { ⌜ Good areaSize c (now area) ⌝ }
 {
@@ -92,50 +92,52 @@ fn line_buffer() -> [u8; 3276]
 }
 
 // The card after all events, in words.
-fn show_card(c: Card, fd: i32, label: &[u8], tells: bool)
+fn show_card(c: Card, fd: i32, label: &[u8]) -> u8
     requires { ⌜ Good areaSize c (zeros areaSize) ⌝ }
 {
     let mut area = clear_area();
     let outcome = play_all(c, &mut area, fd, label);
     if outcome.failed {
-        return;
+        return edge::NOT_DONE;
     }
     let card = outcome.card;
     let mut good = true;
     write_facts(&mut good, card, outcome.events);
     write_table(&mut good, card, &area);
     if good {
-        edge::tell(tells, outcome.refused);
+        return edge::status_of(outcome.refused);
     }
+    edge::NOT_DONE
 }
 
 // The card of the chip record.
-fn show_session(chip: &[u8], fd: i32, label: &[u8], tells: bool) {
+fn show_session(chip: &[u8], fd: i32, label: &[u8]) -> u8 {
     let made = fresh::fresh(chip);
     if made.number != 0 {
         remarks::note_chip(label, chip);
-        edge::tell(tells, true);
-        return;
+        return edge::REFUSED;
     }
-    show_card(made.card, fd, label, tells);
+    show_card(made.card, fd, label)
 }
 
-fn show(fd: i32, label: &[u8], tells: bool) {
+fn show(fd: i32, label: &[u8]) -> u8 {
     let mut chip = [0u8; 40];
     let got = edge::read_labelled(label, fd, &mut chip);
     if got.failed {
-        return;
+        return edge::NOT_DONE;
     }
     let n = got.count;
-    show_session(&chip[..n], fd, label, tells);
+    show_session(&chip[..n], fd, label)
 }
 
 fn main() {
     let mut label = edge::label_buffer();
     let source = edge::started(b"show: ", &mut label);
     if source.fd < 0 {
+        edge::tell(source.tells, edge::NOT_DONE);
         return;
     }
     let n = source.labelled;
-    show(source.fd, &label[..n], source.tells);
+    let status = show(source.fd, &label[..n]);
+    edge::tell(source.tells, status);
 }

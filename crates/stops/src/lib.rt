@@ -157,7 +157,15 @@ fn value_stop(after: Loading, w: u16, row: usize, h: Head, d: &[u8], at: usize) 
 }
 
 // Rules f and g, and what follows.
-fn length_stop(after: Loading, w: u16, row: usize, room: usize, h: Head, d: &[u8], at: usize) -> Stop
+fn length_stop(
+    after: Loading,
+    w: u16,
+    row: usize,
+    room: usize,
+    h: Head,
+    d: &[u8],
+    at: usize,
+) -> Stop
     requires { ⌜ (after .count ≤ 31) × (1 ≤ row) × (row ≤ 11) × (3 ≤ at) × (at + h .size ≤ length (now d)) × (length (now d) ≤ 8195) ⌝ }
     ensures { λ r. ⌜ r ≡ lengthStop (fileList after) (after .count) w row room h (at - 3) (drop at (now (d .entry))) ⌝ }
 {

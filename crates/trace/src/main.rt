@@ -1,5 +1,5 @@
-// The program `trace [--tell] [FILE]`: what `replay` reads, and of each event the whole state on a line. The tests compare
-// it character by character with the second program's.
+// The program `trace [--tell] [FILE]`: what `replay` reads, and of each event the whole state on a line. The tests
+// compare it character by character with the second program's.
 use model::Card;
 use model::Descriptor;
 use model::Life;
@@ -479,26 +479,28 @@ fn trace_session(chip: &[u8], fd: i32, label: &[u8]) -> Outcome {
     trace_card(made.card, fd, label)
 }
 
-fn trace(fd: i32, label: &[u8], tells: bool) {
+fn trace(fd: i32, label: &[u8]) -> u8 {
     let mut chip = [0u8; 40];
     let got = edge::read_labelled(label, fd, &mut chip);
     if got.failed {
-        return;
+        return edge::NOT_DONE;
     }
     let n = got.count;
     let outcome = trace_session(&chip[..n], fd, label);
     if outcome.failed {
-        return;
+        return edge::NOT_DONE;
     }
-    edge::tell(tells, outcome.refused);
+    edge::status_of(outcome.refused)
 }
 
 fn main() {
     let mut label = edge::label_buffer();
     let source = edge::started(b"trace: ", &mut label);
     if source.fd < 0 {
+        edge::tell(source.tells, edge::NOT_DONE);
         return;
     }
     let n = source.labelled;
-    trace(source.fd, &label[..n], source.tells);
+    let status = trace(source.fd, &label[..n]);
+    edge::tell(source.tells, status);
 }

@@ -21,7 +21,7 @@ refused-by-requires : tie.Need-refused-by-requires
 refused-by-requires c κs = search needs
 
 returns : tie.Need-returns
-returns c = 
+returns c =
     let s = c .before .before .before .before .before .before .before .args in
     (rw (c .refused-by .ensures) (no-area (now (s .chip)) (now (s .order)) (now (s .room)) (now (s .area)) (now (s .out)) (c .before .if1 .taken)), rw (c .refused-by .ensures) (omega arith))
 
@@ -29,12 +29,12 @@ room-for-requires : tie.Need-room-for-requires
 room-for-requires c κs = search needs
 
 slice-relend-prefix-lay-session : tie.Need-slice-relend-prefix-lay-session
-slice-relend-prefix-lay-session c = 
+slice-relend-prefix-lay-session c =
     let s = c .before .before .before .before .before .before .before .args in
     rw (c .room-for .ensures) (room-within (length (now (s .room))) (length (now (s .out))))
 
 slice-aggregate-lay-session : tie.Need-slice-aggregate-lay-session
-slice-aggregate-lay-session c = 
+slice-aggregate-lay-session c =
     let s = c .before .before .before .before .before .before .before .before .args in
     sym (length-take-le _ (now (s .room)) (rw (c .before .room-for .ensures) (room-within (length (now (s .room))) (length (now (s .out))))))
 
@@ -48,14 +48,14 @@ same-length : tie.Need-same-length
 same-length c = search needs
 
 returns-2 : tie.Need-returns-2
-returns-2 c = 
+returns-2 c =
     let s = c .before .before .before .before .before .before .before .before .before .before .before .before .before .before .args in
     let laid = c .before .before .before .before .before .lay-session in
     let n = c .before .before .before .before .before .before .before .room-for in
     (rw (c .refused-by2 .ensures) (refused (now (s .chip)) (now (s .order)) (now (s .room)) (now (s .area)) (now (s .out)) (c .before .before .before .before .before .before .before .before .if1 .left) (n .result) (n .ensures) (laid .result) (laid .last .1 .1 .0) (laid .ensures .0) (c .before .if2 .taken)), rw (c .refused-by2 .ensures) (omega arith))
 
 add-end : tie.Need-add-end
-add-end c = 
+add-end c =
     let s = c .before .before .before .before .before .before .before .before .before .before .before .before .before .before .args in
     let laid = c .before .before .before .before .before .lay-session in
     let n = c .before .before .before .before .before .before .before .room-for in
@@ -63,7 +63,7 @@ add-end c =
     record { fits = omega arith }
 
 mul-end : tie.Need-mul-end
-mul-end c = 
+mul-end c =
     let s = c .before .before .before .before .before .before .before .before .before .before .before .before .before .before .args in
     let laid = c .before .before .before .before .before .lay-session in
     let n = c .before .before .before .before .before .before .before .room-for in
@@ -71,21 +71,21 @@ mul-end c =
     record { fits = omega arith }
 
 slice-reshare-prefix-play : tie.Need-slice-reshare-prefix-play
-slice-reshare-prefix-play c = 
+slice-reshare-prefix-play c =
     let s = c .before .before .before .before .before .before .before .before .before .before .before .before .before .before .args in
     let laid = c .before .before .before .before .before .lay-session in
     let n = c .before .before .before .before .before .before .before .room-for in
     fits (now (s .chip)) (now (s .order)) (now (s .room)) (now (s .area)) (now (s .out)) (c .before .before .before .before .before .before .before .before .if1 .left) (n .result) (n .ensures) (laid .result) (laid .last .1 .1 .0) (laid .ensures .0) (c .before .if2 .left)
 
 slice-aggregate-play : tie.Need-slice-aggregate-play
-slice-aggregate-play c = 
+slice-aggregate-play c =
     let s = c .before .before .before .before .before .before .before .before .before .before .before .before .before .before .before .args in
     let laid = c .before .before .before .before .before .before .lay-session in
     let n = c .before .before .before .before .before .before .before .before .room-for in
     sym (length-take-le _ _ (fits (now (s .chip)) (now (s .order)) (now (s .room)) (now (s .area)) (now (s .out)) (c .before .before .before .before .before .before .before .before .before .if1 .left) (n .result) (n .ensures) (laid .result) (laid .last .1 .1 .0) (laid .ensures .0) (c .before .before .if2 .left)))
 
 play-requires : tie.Need-play-requires
-play-requires c κs = 
+play-requires c κs =
     let s = c .before .before .before .before .before .before .before .before .before .before .before .before .before .before .before .before .before .args in
     let laid = c .before .before .before .before .before .before .before .before .lay-session in
     let n = c .before .before .before .before .before .before .before .before .before .before .room-for in
@@ -101,12 +101,13 @@ same-length-4 : tie.Need-same-length-4
 same-length-4 c = search needs
 
 returns-3 : tie.Need-returns-3
-returns-3 c = 
+returns-3 c =
     let s = c .before .before .before .before .before .before .before .before .before .before .before .before .before .before .before .before .before .before .before .before .before .before .args in
     let laid = c .before .before .before .before .before .before .before .before .before .before .before .before .before .lay-session in
-    let n = c .before .before .before .before .before .before .before .before .before .before .before .before .before .before .before .room-for in
-    (entered (now (s .chip)) (now (s .order)) (now (s .room)) (now (s .area)) (now (s .out)) (c .before .before .before .before .before .before .before .before .before .before .before .before .before .before .before .before .if1 .left) (n .result) (n .ensures) (laid .result) (laid .last .1 .1 .0) (laid .ensures .0) (c .before .before .before .before .before .before .before .before .before .if2 .left) _ _ _ (c .before .before .before .before .play .ensures),
-    entered-few (now (s .chip)) (now (s .order)) (now (s .room)) (now (s .area)) (now (s .out)) (c .before .before .before .before .before .before .before .before .before .before .before .before .before .before .before .before .if1 .left) (n .result) (n .ensures) (laid .result) (laid .last .1 .1 .0) (laid .ensures .0) (c .before .before .before .before .before .before .before .before .before .if2 .left) _ _ _ (c .before .before .before .before .play .ensures))
+    let n = c .before .before .before .before .before .before .before .before .before .before .before .before .before .before .before .room-for in (
+      entered (now (s .chip)) (now (s .order)) (now (s .room)) (now (s .area)) (now (s .out)) (c .before .before .before .before .before .before .before .before .before .before .before .before .before .before .before .before .if1 .left) (n .result) (n .ensures) (laid .result) (laid .last .1 .1 .0) (laid .ensures .0) (c .before .before .before .before .before .before .before .before .before .if2 .left) _ _ _ (c .before .before .before .before .play .ensures),
+      entered-few (now (s .chip)) (now (s .order)) (now (s .room)) (now (s .area)) (now (s .out)) (c .before .before .before .before .before .before .before .before .before .before .before .before .before .before .before .before .if1 .left) (n .result) (n .ensures) (laid .result) (laid .last .1 .1 .0) (laid .ensures .0) (c .before .before .before .before .before .before .before .before .before .if2 .left) _ _ _ (c .before .before .before .before .play .ensures),
+    )
 
 pub enter-job-spec : {M : Type 1} → statement M
 enter-job-spec =

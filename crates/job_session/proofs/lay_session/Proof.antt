@@ -36,9 +36,10 @@ same-length c = search needs
 returns : tie.Need-returns
 returns c =
     let s = c .before .before .before .before .before .before .before .before .before .before .args in
-    let write = c .before .before .before .before .write in
-    (refused (now (s .chip)) (now (s .order)) (now (s .room)) _ (c .before .before .before .before .before .before .front-in .ensures) (write .result) (write .last .1 .1 .0) (write .ensures) (c .if1 .taken),
-    refused-none-written (now (s .chip)) (now (s .order)) (now (s .room)) _ (c .before .before .before .before .before .before .front-in .ensures) (write .result) (write .last .1 .1 .0) (write .ensures) (c .if1 .taken))
+    let write = c .before .before .before .before .write in (
+      refused (now (s .chip)) (now (s .order)) (now (s .room)) _ (c .before .before .before .before .before .before .front-in .ensures) (write .result) (write .last .1 .1 .0) (write .ensures) (c .if1 .taken),
+      refused-none-written (now (s .chip)) (now (s .order)) (now (s .room)) _ (c .before .before .before .before .before .before .front-in .ensures) (write .result) (write .last .1 .1 .0) (write .ensures) (c .if1 .taken),
+    )
 
 lay-front-requires : tie.Need-lay-front-requires
 lay-front-requires c κs =
@@ -52,10 +53,11 @@ same-length-2 c = search needs
 returns-2 : tie.Need-returns-2
 returns-2 c =
     let s = c .before .before .before .before .before .before .before .before .before .before .before .before .before .before .args in
-    let write = c .before .before .before .before .before .before .before .before .write in
-    (passed (now (s .chip)) (now (s .order)) (now (s .room)) _ (c .before .before .before .before .before .before .before .before .before .before .front-in .ensures) (write .result) (write .last .1 .1 .0) (write .ensures) (c .before .before .before .before .if1 .left)
-    _ (c .before .before .lay-front .ensures),
-    passed-few (now (s .chip)) (now (s .order)) (now (s .room)) _ (c .before .before .before .before .before .before .before .before .before .before .front-in .ensures) (write .result) (write .last .1 .1 .0) (write .ensures) (c .before .before .before .before .if1 .left))
+    let write = c .before .before .before .before .before .before .before .before .write in (
+      passed (now (s .chip)) (now (s .order)) (now (s .room)) _ (c .before .before .before .before .before .before .before .before .before .before .front-in .ensures) (write .result) (write .last .1 .1 .0) (write .ensures) (c .before .before .before .before .if1 .left)
+          _ (c .before .before .lay-front .ensures),
+      passed-few (now (s .chip)) (now (s .order)) (now (s .room)) _ (c .before .before .before .before .before .before .before .before .before .before .front-in .ensures) (write .result) (write .last .1 .1 .0) (write .ensures) (c .before .before .before .before .if1 .left),
+    )
 
 pub lay-session-spec : {M : Type 1} → statement M
 lay-session-spec =

@@ -51,9 +51,15 @@ new-lot-requires : tie.Need-new-lot-requires Inv-loop μ-loop
 new-lot-requires c κs = search needs
 
 loop-holds : tie.Need-loop-holds Inv-loop μ-loop
-loop-holds c =
-    (sym (c .before .before .before .before .before .before .window-buffer .ensures), sym (c .before .before .before .before .before .job-buffer .ensures), sym (c .before .before .before .before .line-buffer .ensures), sym (c .before .before .before .record-buffer .ensures),
-    sym (c .before .before .area-buffer .ensures), omega arith, omega arith)
+loop-holds c = (
+  sym (c .before .before .before .before .before .before .window-buffer .ensures),
+  sym (c .before .before .before .before .before .job-buffer .ensures),
+  sym (c .before .before .before .before .line-buffer .ensures),
+  sym (c .before .before .before .record-buffer .ensures),
+  sym (c .before .before .area-buffer .ensures),
+  omega arith,
+  omega arith,
+)
 
 slice-aggregate-next-name : tie.Need-slice-aggregate-next-name Inv-loop μ-loop
 slice-aggregate-next-name c = sym (c .before .before .loop .inv .0)
@@ -115,9 +121,15 @@ loop-again : tie.Need-loop-again Inv-loop μ-loop
 loop-again c =
     let l = c .before .before .before .before .before .before .before .before .before .before .before .before .before .before .before .before .before .before .before .before .loop in
     let t = c .before .before .before .before .before .turn in
-    let n = c .before .before .before .before .before .before .before .before .before .before .before .before .before .before .before .before .before .next-name in
-    (n .kept .0 ∙ l .inv .0, t .kept .1 .1 .1 .1 .0 ∙ l .inv .1, t .kept .1 .1 .1 .1 .1 .0 ∙ l .inv .2, t .kept .1 .1 .1 .1 .1 .1 .0 ∙ l .inv .3, t .kept .1 .1 .1 .1 .1 .1 .1 .0 ∙ l .inv .4,
-    n .ensures .2, omega (arith, n .ensures .3, l .inv .0))
+    let n = c .before .before .before .before .before .before .before .before .before .before .before .before .before .before .before .before .before .next-name in (
+      n .kept .0 ∙ l .inv .0,
+      t .kept .1 .1 .1 .1 .0 ∙ l .inv .1,
+      t .kept .1 .1 .1 .1 .1 .0 ∙ l .inv .2,
+      t .kept .1 .1 .1 .1 .1 .1 .0 ∙ l .inv .3,
+      t .kept .1 .1 .1 .1 .1 .1 .1 .0 ∙ l .inv .4,
+      n .ensures .2,
+      omega (arith, n .ensures .3, l .inv .0),
+    )
 
 returns-4 : tie.Need-returns-4 Inv-loop μ-loop
 returns-4 c = search needs

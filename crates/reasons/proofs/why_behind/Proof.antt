@@ -101,9 +101,13 @@ stop-at-requires c κs =
     let s = c .before .before .before .before .before .before .before .before .before .before .before .before in
     let g = c .before .before .before .before .grouping-at in
     let t = stateOf (g .result .load) (g .last .1 .0) in
-    let e = sym (ap (λ (y : Course). coursed y (now (s .args .d)) t) (c .before .enum-told .given .1)) ∙ g .ensures in
-    (walking-count (s .args .capacity) (now (s .args .d)) (stateOf (l .load) (l .area)) (l .i) (l .inv .0),
-    asks-count (s .args .capacity) (now (s .args .d)) (stateOf (l .load) (l .area)) (l .turns) (l .place) (l .i) (omega arith) (omega arith) _ t (l .inv .0) e, l .inv .2, omega arith, s .pre .1)
+    let e = sym (ap (λ (y : Course). coursed y (now (s .args .d)) t) (c .before .enum-told .given .1)) ∙ g .ensures in (
+      walking-count (s .args .capacity) (now (s .args .d)) (stateOf (l .load) (l .area)) (l .i) (l .inv .0),
+      asks-count (s .args .capacity) (now (s .args .d)) (stateOf (l .load) (l .area)) (l .turns) (l .place) (l .i) (omega arith) (omega arith) _ t (l .inv .0) e,
+      l .inv .2,
+      omega arith,
+      s .pre .1,
+    )
 
 returns-2 : tie.Need-returns-2 Inv-loop μ-loop
 returns-2 c =
@@ -123,9 +127,13 @@ stop-at-requires-2 c κs =
     let s = c .before .before .before .before .before .before .before .before .before .before .before .before .before in
     let g = c .before .before .before .before .before .grouping-at in
     let t = stateOf (g .result .load) (g .last .1 .0) in
-    let e = sym (ap (λ (y : Course). coursed y (now (s .args .d)) t) (c .before .before .course2 .given .1)) ∙ g .ensures in
-    (walking-count (s .args .capacity) (now (s .args .d)) (stateOf (l .load) (l .area)) (l .i) (l .inv .0),
-    fails-count (s .args .capacity) (now (s .args .d)) (stateOf (l .load) (l .area)) (l .turns) (l .place) (l .i) (omega arith) (omega arith) _ t (l .inv .0) e, l .inv .2, omega arith, s .pre .1)
+    let e = sym (ap (λ (y : Course). coursed y (now (s .args .d)) t) (c .before .before .course2 .given .1)) ∙ g .ensures in (
+      walking-count (s .args .capacity) (now (s .args .d)) (stateOf (l .load) (l .area)) (l .i) (l .inv .0),
+      fails-count (s .args .capacity) (now (s .args .d)) (stateOf (l .load) (l .area)) (l .turns) (l .place) (l .i) (omega arith) (omega arith) _ t (l .inv .0) e,
+      l .inv .2,
+      omega arith,
+      s .pre .1,
+    )
 
 returns-3 : tie.Need-returns-3 Inv-loop μ-loop
 returns-3 c =

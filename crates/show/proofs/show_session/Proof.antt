@@ -10,9 +10,6 @@ fresh-requires c κs = search needs
 note-chip-requires : tie.Need-note-chip-requires
 note-chip-requires c κs = search needs
 
-tell-requires : tie.Need-tell-requires
-tell-requires c κs = search needs
-
 returns : tie.Need-returns
 returns c = search needs
 
@@ -25,4 +22,4 @@ returns-2 c = search needs
 pub show-session-spec : {M : Type 1} → statement M
 show-session-spec =
     tie.close
-    (tie.spec fresh-requires note-chip-requires tell-requires returns show-card-requires returns-2)
+    (tie.spec fresh-requires note-chip-requires returns show-card-requires returns-2)
