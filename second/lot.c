@@ -8,7 +8,7 @@
  *  - BASE is what stands before the last dot of the last component, and may be empty (".txt").
  *  - The size total is one of the file table's rules: where it is over, the place is the descriptor's.
  *  - A register of an earlier run that stands and cannot be removed makes its job "not done".
- *  - Where a job cannot be read, or its register cannot be written, a register of an earlier run stays.
+ *  - A register of an earlier run is removed wherever the job's line does not say 0.
  *  - A register of 65,536 bytes or more is not whole: no job has that many events.
  *  - OUT that isn't a folder, or names that cannot be read: a line on standard error, exit 2, and no END.
  *  - The lines are written out whenever more names must be read.
@@ -425,8 +425,7 @@ static void do_job(void)
     }
     g = open_job(&t);
     if (g != GOT) {
-        if (g == WRONG)
-            (void)remove_register();
+        (void)remove_register();
         line_undone(g == WRONG ? &t : 0);
         return;
     }
@@ -435,8 +434,10 @@ static void do_job(void)
         line_refused(done.number);
     else if (done.number == 0 && write_register(text, play_session(records, done.records, &c, text)))
         line_loaded(c.gp, c.internal, done.records, c.serial);
-    else
+    else {
+        (void)remove_register();
         line_undone(0);
+    }
 }
 
 /* ---------------------------------------------------------------- all of them */

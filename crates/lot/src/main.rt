@@ -95,7 +95,7 @@ fn events_at(path: &[u8]) -> usize {
     whole::events_in(&register[..got.count])
 }
 
-// An old register of a job that has none now. Whether there is none.
+// An old register of a job that has none now: it would speak of another order. Whether there is none.
 fn removed(path: &[u8]) -> bool {
     if os::unlink(path) == 0 {
         return true;
@@ -144,6 +144,7 @@ fn register_of(name: &[u8], folder: &[u8], path: &[u8], register: &[u8], entry: 
     if written(&part[..n], path, register) {
         return entered(name, entry);
     }
+    removed(path);
     undone(name, 0, 0)
 }
 
@@ -209,6 +210,7 @@ fn taken(
     let fd = os::open_read(name);
     if fd < 0 {
         os::fail(label);
+        removed(path);
         return undone(name, 0, 0);
     }
     let is_text = intake::is_text_name(name);
@@ -230,13 +232,8 @@ fn taken(
             area,
         );
     }
-    if taken.fault == intake::UNREAD {
-        return undone(name, 0, 0);
-    }
-    if removed(path) {
-        return undone(name, taken.line, taken.column);
-    }
-    undone(name, 0, 0)
+    removed(path);
+    undone(name, taken.line, taken.column)
 }
 
 // One job, by its name.

@@ -28,6 +28,9 @@ open-read-requires c κs = search needs
 fail-requires : tie.Need-fail-requires
 fail-requires c κs = search needs
 
+removed-requires : tie.Need-removed-requires
+removed-requires c κs = search needs
+
 undone-requires : tie.Need-undone-requires
 undone-requires c κs = search needs
 
@@ -81,6 +84,9 @@ same-length-4 c = search needs
 returns-2 : tie.Need-returns-2
 returns-2 c = search needs
 
+removed-requires-2 : tie.Need-removed-requires-2
+removed-requires-2 c κs = search needs
+
 undone-requires-2 : tie.Need-undone-requires-2
 undone-requires-2 c κs = search needs
 
@@ -93,39 +99,13 @@ same-length-6 c = search needs
 returns-3 : tie.Need-returns-3
 returns-3 c = search needs
 
-removed-requires : tie.Need-removed-requires
-removed-requires c κs = search needs
-
-undone-requires-3 : tie.Need-undone-requires-3
-undone-requires-3 c κs = search needs
-
-same-length-7 : tie.Need-same-length-7
-same-length-7 c = search needs
-
-same-length-8 : tie.Need-same-length-8
-same-length-8 c = search needs
-
-returns-4 : tie.Need-returns-4
-returns-4 c = search needs
-
-undone-requires-4 : tie.Need-undone-requires-4
-undone-requires-4 c κs = search needs
-
-same-length-9 : tie.Need-same-length-9
-same-length-9 c = search needs
-
-same-length-10 : tie.Need-same-length-10
-same-length-10 c = search needs
-
-returns-5 : tie.Need-returns-5
-returns-5 c = search needs
-
 pub taken-spec : {M : Type 1} → statement M
 taken-spec =
     tie.close
     (tie.spec
     open-read-requires
     fail-requires
+    removed-requires
     undone-requires
     returns
     is-text-name-requires
@@ -143,16 +123,8 @@ taken-spec =
     same-length-3
     same-length-4
     returns-2
+    removed-requires-2
     undone-requires-2
     same-length-5
     same-length-6
-    returns-3
-    removed-requires
-    undone-requires-3
-    same-length-7
-    same-length-8
-    returns-4
-    undone-requires-4
-    same-length-9
-    same-length-10
-    returns-5)
+    returns-3)
