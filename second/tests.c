@@ -1205,7 +1205,7 @@ static void lot_files(void)
                       "empty.job\t10\t-\t-\t0\t-\t0\t-\t6985\nhalf.txt\t-\t-\t-\t0\t-\t1:4\t-\t-\n"
                       "gone.job" UNDONE "folder" UNDONE "END\t4\t0\t1\t3\n"), "lot: no job to read");
     expect(!stands("out/empty.register") && !stands("out/half.register"), "lot: old registers are removed");
-    expect(stands("out/gone.register"), "lot: but not where nothing was read");
+    expect(!stands("out/gone.register"), "lot: also where nothing was read");
     mkdir("out/good.register.d", 0777);
     unlink("out/good.register");
     mkdir("out/good.register", 0777);
