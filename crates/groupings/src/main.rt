@@ -1,9 +1,14 @@
-// The program `groupings [--tell] [FILE]`: an order is read, a line a pull is written to standard output, and last
-// which ending it has. It streams: an order of any length, in the memory of one window and one buffer.
+// The program `groupings [--tell] [--job] [--hex] [FILE]`: an order, or a job's, is read, as bytes or as hexadecimal
+// text, a line a pull is written to standard output, and last which ending it has. It streams: an order of any
+// length, in the memory of one window and one buffer.
 use model::Header;
+use text::Mode;
+use text::Place;
+use text::Reading;
 ghost use mathlib.Core.Path.{_≡_};
 ghost use Prim.Native.Nat.{_+_, _*_, _≤_, _<_};
 ghost use lib.ListN.{length};
+ghost use Rattle.io.specs.Counts.{Counts};
 
 // A value of up to so many bytes is printed only when it is whole: it fits a window with its header.
 const LONGEST: usize = 16384;
@@ -235,44 +240,270 @@ fn keep(window: &mut [u8], from: usize, end: usize) -> usize
     n
 }
 
-// How far a window is filled, whether the input has ended, and whether a read failed, which was said.
+// Text is read so many characters at a time: they complete fewer bytes.
+const CHUNK: usize = 512;
+
+// The kind of a text's fault that is half a byte; any other is a character that is no digit.
+const HALF: u8 = 2;
+
+// A job's chip record, which stands before its order.
+const CHIP_SIZE: usize = 40;
+
+// What is read, whether it is text, where the reader of text stands, and whether there is no more.
+struct Input {
+    pub fd: i32,
+    pub is_text: bool,
+    pub place: Place,
+    pub ended: bool,
+}
+
+// How far a window is filled, what is left to read, and whether that failed, which was said.
 struct Filled {
     pub end: usize,
-    pub ended: bool,
+    pub input: Input,
     pub failed: bool,
 }
 
-// Fills the window behind what is kept of it. An input that has ended is not read again.
-fn fill(window: &mut [u8], kept: usize, ended: bool, fd: i32, label: &[u8]) -> Filled
+fn filled_to(end: usize, input: Input, ended: bool, failed: bool) -> Filled
+    ensures { λ r. ⌜ r .end ≡ end ⌝ }
+{
+    let place = input.place;
+    let next = Input {
+        fd: input.fd,
+        is_text: input.is_text,
+        place: place,
+        ended: ended,
+    };
+    Filled {
+        end: end,
+        input: next,
+        failed: failed,
+    }
+}
+
+// Fills the window with bytes.
+fn fill_bytes(window: &mut [u8], kept: usize, input: Input, label: &[u8]) -> Filled
     requires { ⌜ kept ≤ length (now window) ⌝ }
     ensures { λ r. ⌜ r .end ≤ length (now (window .exit)) ⌝ }
 {
-    if ended {
-        return Filled {
-            end: kept,
-            ended: true,
-            failed: false,
-        };
-    }
-    let got = edge::read_labelled(label, fd, &mut window[kept..]);
+    let got = edge::read_labelled(label, input.fd, &mut window[kept..]);
     let end = kept + got.count;
+    filled_to(end, input, end < window.len(), got.failed)
+}
+
+// What stands at a fault is not told, since it could be a key's.
+fn say_fault(label: &[u8], kind: u8, line: u32, column: u32) {
+    let place = [line as u64, column as u64];
+    if kind == HALF {
+        edge::say_form(
+            label,
+            b": line #, column #: half a byte: the digit stands alone\n",
+            &place,
+        );
+        return;
+    }
+    edge::say_form(
+        label,
+        b": line #, column #: not a hexadecimal digit\n",
+        &place,
+    );
+}
+
+// Whether the text is wrong, which is said.
+fn is_wrong(label: &[u8], r: Reading) -> bool {
+    let mode = r.mode;
+    match mode {
+        Mode::Wrong(kind) => {
+            say_fault(label, kind, r.line, r.column);
+            true
+        }
+        Mode::Mark(_) => false,
+        Mode::Between => false,
+        Mode::Half(_) => false,
+        Mode::Comment => false,
+    }
+}
+
+// A reading of which no bytes are laid yet.
+fn reading_at(p: Place) -> Reading
+    ensures { λ r. ⌜ r .count ≡ 0 ⌝ }
+{
+    let mode = p.mode;
+    Reading {
+        mode: mode,
+        line: p.line,
+        column: p.column,
+        count: 0,
+    }
+}
+
+fn place_of(r: Reading) -> Place {
+    let mode = r.mode;
+    Place {
+        mode: mode,
+        line: r.line,
+        column: r.column,
+    }
+}
+
+// The reading at the end of a chunk: a short one is the text's last.
+fn closed(r: Reading, last: bool) -> Reading {
+    if last {
+        return text::finish(r);
+    }
+    r
+}
+
+// What a chunk came to.
+fn after_chunk(end: usize, fd: i32, r: Reading, last: bool, label: &[u8]) -> Filled
+    ensures { λ s. ⌜ s .end ≡ end ⌝ }
+{
+    let reading = closed(r, last);
+    let wrong = is_wrong(label, reading);
+    let place = place_of(reading);
+    let next = Input {
+        fd: fd,
+        is_text: true,
+        place: place,
+        ended: last || wrong,
+    };
     Filled {
         end: end,
-        ended: end < window.len(),
-        failed: got.failed,
+        input: next,
+        failed: wrong,
     }
+}
+
+// The bytes of the next characters, behind what is filled of a window.
+fn take_chunk(window: &mut [u8], filled: usize, input: Input, label: &[u8]) -> Filled
+    requires { ⌜ filled + 512 ≤ length (now window) ⌝ }
+    ensures { λ r. ⌜ r .end ≤ length (now (window .exit)) ⌝ }
+{
+    let mut chars = [0u8; 512];
+    let got = edge::read_labelled(label, input.fd, &mut chars);
+    if got.failed {
+        return filled_to(filled, input, true, true);
+    }
+    let n = got.count;
+    let mut lines = [0u32; 512];
+    let place = input.place;
+    let r = text::read(
+        reading_at(place),
+        &chars[..n],
+        &mut window[filled..filled + CHUNK],
+        &mut lines,
+    );
+    after_chunk(filled + r.count, input.fd, r, n < CHUNK, label)
+}
+
+// Fills the window with the bytes of text, as long as those of a chunk have room.
+fn fill_text(window: &mut [u8], kept: usize, input: Input, label: &[u8]) -> Filled
+    requires { ⌜ kept ≤ length (now window) ⌝ }
+    ensures { λ r. ⌜ r .end ≤ length (now (window .exit)) ⌝ }
+{
+    let mut end = kept;
+    let mut left = input;
+    let mut turns = u64::MAX;
+    while 0 < turns {
+        if window.len() - end < CHUNK {
+            return filled_to(end, left, false, false);
+        }
+        let f = take_chunk(window, end, left, label);
+        end = f.end;
+        left = f.input;
+        if left.ended {
+            return filled_to(end, left, true, f.failed);
+        }
+        turns -= 1;
+    }
+    filled_to(end, left, true, true)
+}
+
+// Fills the window behind what is kept of it. An input that has ended is not read again.
+fn fill(window: &mut [u8], kept: usize, input: Input, label: &[u8]) -> Filled
+    requires { ⌜ kept ≤ length (now window) ⌝ }
+    ensures { λ r. ⌜ r .end ≤ length (now (window .exit)) ⌝ }
+{
+    if input.ended {
+        return filled_to(kept, input, true, false);
+    }
+    if input.is_text {
+        return fill_text(window, kept, input, label);
+    }
+    fill_bytes(window, kept, input, label)
+}
+
+// How much of an order's front is in the window, what is left to read, and whether that went well.
+struct Front {
+    pub kept: usize,
+    pub input: Input,
+    pub status: u8,
+}
+
+fn front_of(kept: usize, input: Input, status: u8) -> Front
+    ensures { λ r. ⌜ r .kept ≡ kept ⌝ }
+{
+    Front {
+        kept: kept,
+        input: input,
+        status: status,
+    }
+}
+
+// A chip record that is too short.
+fn say_short(label: &[u8], n: usize) {
+    if n == 1 {
+        edge::say(
+            label,
+            b": the chip record has 1 byte, and it must have 40\n",
+        );
+        return;
+    }
+    edge::say_form(
+        label,
+        b": the chip record has # bytes, and it must have 40\n",
+        &[n as u64],
+    );
+}
+
+// Passes over the chip record.
+fn pass_chip(window: &mut [u8], input: Input, label: &[u8]) -> Front
+    ensures { λ r. ⌜ r .kept ≤ length (now (window .entry)) ⌝ }
+{
+    let f = fill(window, 0, input, label);
+    let end = f.end;
+    let next = f.input;
+    if f.failed {
+        return front_of(0, next, edge::NOT_DONE);
+    }
+    if end < CHIP_SIZE {
+        say_short(label, end);
+        return front_of(0, next, edge::REFUSED);
+    }
+    let n = keep(window, CHIP_SIZE, end);
+    front_of(n, next, edge::DONE)
+}
+
+// The front of the order.
+fn open_order(window: &mut [u8], input: Input, is_job: bool, label: &[u8]) -> Front
+    ensures { λ r. ⌜ r .kept ≤ length (now (window .entry)) ⌝ }
+{
+    if is_job {
+        return pass_chip(window, input, label);
+    }
+    front_of(0, input, edge::DONE)
 }
 
 // Where the reading stands: how much is kept at the window's front and filled of the buffer, how many bytes of a long
 // value are still to come, where the window's front lies in the order and where the grouping under way begins, and
-// whether the input has ended, whether to go on, and whether a read or a write failed, which was said.
+// what is left to read, whether to go on, and whether a read or a write failed, which was said.
 struct Stand {
     pub kept: usize,
     pub filled: usize,
     pub owed: usize,
     pub front: u64,
     pub began: u64,
-    pub ended: bool,
+    pub input: Input,
     pub going: bool,
     pub failed: bool,
 }
@@ -288,25 +519,28 @@ fn began_at(s: Stand) -> u64 {
 fn stopped(s: Stand) -> Stand
     ensures { λ r. ⌜ (r .kept ≡ s .kept) × (r .filled ≡ s .filled) ⌝ }
 {
+    let input = s.input;
     Stand {
         kept: s.kept,
         filled: s.filled,
         owed: s.owed,
         front: s.front,
         began: s.began,
-        ended: s.ended,
+        input: input,
         going: false,
         failed: true,
     }
 }
 
 // Fills the window, prints what can be printed of it, and keeps the rest.
-fn print_next(window: &mut [u8], out: &mut [u8], s: Stand, fd: i32, label: &[u8]) -> Stand
+fn print_next(window: &mut [u8], out: &mut [u8], s: Stand, label: &[u8]) -> Stand
     requires { ⌜ (s .kept ≤ length (now window)) × (s .filled ≤ length (now out)) × (8192 ≤ length (now out)) ⌝ }
     ensures { λ r. ⌜ (r .kept ≤ length (now (window .entry))) × (r .filled ≤ length (now (out .entry))) ⌝ }
 {
-    let f = fill(window, s.kept, s.ended, fd, label);
+    let input = s.input;
+    let f = fill(window, s.kept, input, label);
     let end = f.end;
+    let next = f.input;
     if f.failed {
         return stopped(s);
     }
@@ -319,7 +553,7 @@ fn print_next(window: &mut [u8], out: &mut [u8], s: Stand, fd: i32, label: &[u8]
         owed: used.owed,
         front: std::num::wrapping_add_u64(s.front, used.at as u64),
         began: began_at(s),
-        ended: f.ended,
+        input: next,
         going: 0 < used.at && good,
         failed: !good,
     }
@@ -327,23 +561,23 @@ fn print_next(window: &mut [u8], out: &mut [u8], s: Stand, fd: i32, label: &[u8]
 
 // Window after window to the end of the order, or to where it is torn. The loops here count their turns down from a
 // number that no run uses up, since nothing says that an input ends.
-fn print_order(window: &mut [u8], out: &mut [u8], fd: i32, label: &[u8]) -> Stand
-    requires { ⌜ 8192 ≤ length (now out) ⌝ }
+fn print_order(window: &mut [u8], out: &mut [u8], kept: usize, input: Input, label: &[u8]) -> Stand
+    requires { ⌜ (kept ≤ length (now window)) × (8192 ≤ length (now out)) ⌝ }
     ensures { λ r. ⌜ r .filled ≤ length (now (out .entry)) ⌝ }
 {
     let mut s = Stand {
-        kept: 0,
+        kept: kept,
         filled: 0,
         owed: 0,
         front: 0,
         began: 0,
-        ended: false,
+        input: input,
         going: true,
         failed: false,
     };
     let mut turns = u64::MAX;
     while 0 < turns {
-        s = print_next(window, out, s, fd, label);
+        s = print_next(window, out, s, label);
         if !s.going {
             return s;
         }
@@ -359,15 +593,15 @@ struct Rest {
 }
 
 // Reads to the end of the input: an order's length is known only then.
-fn read_rest(window: &mut [u8], ended: bool, fd: i32, label: &[u8]) -> Rest {
+fn read_rest(window: &mut [u8], input: Input, label: &[u8]) -> Rest {
     let mut count: u64 = 0;
-    let mut over = ended;
+    let mut left = input;
     let mut turns = u64::MAX;
     while 0 < turns {
-        let f = fill(window, 0, over, fd, label);
+        let f = fill(window, 0, left, label);
         count = std::num::wrapping_add_u64(count, f.end as u64);
-        over = f.ended;
-        if over {
+        left = f.input;
+        if left.ended {
             return Rest {
                 count: count,
                 failed: f.failed,
@@ -429,14 +663,20 @@ fn text_buffer() -> [u8; 16384]
     [0; 16384]
 }
 
-fn groupings(fd: i32, label: &[u8]) -> u8 {
+fn groupings(input: Input, is_job: bool, label: &[u8]) -> u8 {
     let mut window = window_buffer();
     let mut out = text_buffer();
-    let s = print_order(&mut window, &mut out, fd, label);
+    let begun = open_order(&mut window, input, is_job, label);
+    if begun.status != edge::DONE {
+        return begun.status;
+    }
+    let first = begun.input;
+    let s = print_order(&mut window, &mut out, begun.kept, first, label);
     if s.failed {
         return edge::NOT_DONE;
     }
-    let rest = read_rest(&mut window, s.ended, fd, label);
+    let left = s.input;
+    let rest = read_rest(&mut window, left, label);
     if rest.failed {
         return edge::NOT_DONE;
     }
@@ -450,14 +690,105 @@ fn groupings(fd: i32, label: &[u8]) -> u8 {
     edge::NOT_DONE
 }
 
+// Whether argument i is the option of these three letters. A longer one is no word here.
+fn asks(i: usize, first: u8, second: u8, third: u8) -> bool {
+    let mut word = [0u8; 5];
+    if os::arg(i, &mut word) != 5 {
+        return false;
+    }
+    let dashes = word[0] == b'-' && word[1] == b'-';
+    dashes && word[2] == first && word[3] == second && word[4] == third
+}
+
+// The argument behind this one, where this one is an option that was given.
+fn behind(i: usize, given: bool) -> usize
+    requires { ⌜ i ≤ 3 ⌝ }
+    ensures { λ r. ⌜ r ≤ i + 1 ⌝ }
+{
+    if given {
+        return i + 1;
+    }
+    i
+}
+
+// Whether a name ends in .txt.
+fn is_text_name(name: &[u8]) -> bool {
+    let n = name.len();
+    if n < 4 {
+        return false;
+    }
+    let first = name[n - 4] == b'.' && name[n - 3] == b't';
+    first && name[n - 2] == b'x' && name[n - 1] == b't'
+}
+
+// What the program was started on: the descriptor, or -1 where that was said already; how long its label is; whether
+// it is to tell its status; whether a job is read, and whether from text.
+struct Start {
+    pub fd: i32,
+    pub labelled: usize,
+    pub tells: bool,
+    pub is_job: bool,
+    pub is_text: bool,
+}
+
+// What argument i names, where nothing follows it.
+fn opened_last(label: &mut [u8], i: usize, tells: bool, is_job: bool, hex: bool) -> Start
+    requires { ⌜ i ≤ 4 ⌝ }
+    ensures { λ r. ⌜ Counts (r .labelled) (now (label .exit)) ⌝ }
+{
+    if i + 1 < os::arg_count() {
+        edge::say(b"groupings: ", b"one file, or none for standard input\n");
+        return Start {
+            fd: -1,
+            labelled: 0,
+            tells: tells,
+            is_job: is_job,
+            is_text: hex,
+        };
+    }
+    let s = edge::open_source(b"groupings: ", i, label);
+    let named = is_text_name(&label[..s.labelled]);
+    Start {
+        fd: s.fd,
+        labelled: s.labelled,
+        tells: tells,
+        is_job: is_job,
+        is_text: hex || named,
+    }
+}
+
+// What the arguments `[--tell] [--job] [--hex] [FILE]` ask.
+fn started(label: &mut [u8]) -> Start
+    ensures { λ r. ⌜ Counts (r .labelled) (now (label .exit)) ⌝ }
+{
+    let tells = edge::asks_tell();
+    let first = behind(1, tells);
+    let is_job = asks(first, b'j', b'o', b'b');
+    let second = behind(first, is_job);
+    let hex = asks(second, b'h', b'e', b'x');
+    opened_last(label, behind(second, hex), tells, is_job, hex)
+}
+
+// Nothing is read yet.
+fn unread(fd: i32, is_text: bool) -> Input {
+    let place = place_of(text::start());
+    Input {
+        fd: fd,
+        is_text: is_text,
+        place: place,
+        ended: false,
+    }
+}
+
 fn main() {
     let mut label = edge::label_buffer();
-    let source = edge::started(b"groupings: ", &mut label);
-    if source.fd < 0 {
-        edge::tell(source.tells, edge::NOT_DONE);
+    let start = started(&mut label);
+    if start.fd < 0 {
+        edge::tell(start.tells, edge::NOT_DONE);
         return;
     }
-    let n = source.labelled;
-    let status = groupings(source.fd, &label[..n]);
-    edge::tell(source.tells, status);
+    let n = start.labelled;
+    let input = unread(start.fd, start.is_text);
+    let status = groupings(input, start.is_job, &label[..n]);
+    edge::tell(start.tells, status);
 }

@@ -59,24 +59,22 @@ fn told(line: &[u8], state: u8) -> u8 {
     STOPPED
 }
 
-fn undone(name: &[u8], row: u32, column: u32) -> u8 {
-    let mut line = edge::label_buffer();
-    let named = put_name(&mut line, name);
-    let end = put_undone(&mut line, named, row, column);
+// A line of each kind, in lent room.
+fn undone(line: &mut [u8], name: &[u8], row: u32, column: u32) -> u8 {
+    let named = put_name(line, name);
+    let end = put_undone(line, named, row, column);
     told(&line[..end], UNDONE)
 }
 
-fn kept(name: &[u8], events: usize) -> u8 {
-    let mut line = edge::label_buffer();
-    let named = put_name(&mut line, name);
-    let end = put_kept(&mut line, named, events);
+fn kept(line: &mut [u8], name: &[u8], events: usize) -> u8 {
+    let named = put_name(line, name);
+    let end = put_kept(line, named, events);
     told(&line[..end], LOADED)
 }
 
-fn entered(name: &[u8], entry: Entry) -> u8 {
-    let mut line = edge::label_buffer();
-    let named = put_name(&mut line, name);
-    let end = put_entered(&mut line, named, entry);
+fn entered(line: &mut [u8], name: &[u8], entry: Entry) -> u8 {
+    let named = put_name(line, name);
+    let end = put_entered(line, named, entry);
     told(&line[..end], LOADED)
 }
 
@@ -137,34 +135,33 @@ fn written(part: &[u8], path: &[u8], register: &[u8]) -> bool {
     said
 }
 
-// A job of which a register was made.
-fn register_of(name: &[u8], folder: &[u8], path: &[u8], register: &[u8], entry: Entry) -> u8 {
-    let mut part = path_buffer();
-    let n = put_path(&mut part, folder, b"/.", name, b".register.part");
-    if written(&part[..n], path, register) {
-        return entered(name, entry);
+// A job of which a register was made. The line's room has the path of the part before it has the line.
+fn register_of(line: &mut [u8], name: &[u8], folder: &[u8], path: &[u8], register: &[u8], entry: Entry) -> u8 {
+    let n = put_path(line, folder, b"/.", name, b".register.part");
+    if written(&line[..n], path, register) {
+        return entered(line, name, entry);
     }
     removed(path);
-    undone(name, 0, 0)
+    undone(line, name, 0, 0)
 }
 
 // A job that is refused by a number: in words, as a line, and without a register.
-fn refused(name: &[u8], label: &[u8], path: &[u8], number: u8, job: &[u8], lines: &[u32]) -> u8 {
+fn refused(line: &mut [u8], name: &[u8], label: &[u8], path: &[u8], number: u8, job: &[u8], lines: &[u32]) -> u8 {
     let end = intake::chip_end(job.len());
     let chip = &job[..end];
     let why = intake::why_of(number, chip, &job[end..]);
     intake::say_refused(label, number, chip, why, lines);
     if removed(path) {
-        let mut line = edge::label_buffer();
-        let named = put_name(&mut line, name);
-        let n = put_refused(&mut line, named, number, why);
+        let named = put_name(line, name);
+        let n = put_refused(line, named, number, why);
         return told(&line[..n], REFUSED);
     }
-    undone(name, 0, 0)
+    undone(line, name, 0, 0)
 }
 
 // What a job was started on: its name, the label of its messages, the folder of the registers, and the path of its own.
 fn enter(
+    line: &mut [u8],
     name: &[u8],
     label: &[u8],
     folder: &[u8],
@@ -178,10 +175,10 @@ fn enter(
     let mut out = register_buffer();
     let entry = job_register::enter_job(&job[..end], &job[end..], room, area, &mut out);
     if entry.number != 0 {
-        return refused(name, label, path, entry.number, job, lines);
+        return refused(line, name, label, path, entry.number, job, lines);
     }
     let size = entry.events * LINE_SIZE + END_SIZE;
-    register_of(name, folder, path, &out[..size], entry)
+    register_of(line, name, folder, path, &out[..size], entry)
 }
 
 // How many lines are known of n bytes.
@@ -196,6 +193,7 @@ fn lines_of(n: usize, is_text: bool) -> usize
 
 // A job from its file.
 fn taken(
+    line: &mut [u8],
     name: &[u8],
     label: &[u8],
     folder: &[u8],
@@ -211,7 +209,7 @@ fn taken(
     if fd < 0 {
         os::fail(label);
         removed(path);
-        return undone(name, 0, 0);
+        return undone(line, name, 0, 0);
     }
     let is_text = intake::is_text_name(name);
     let taken = intake::take(fd, is_text, job, lines);
@@ -222,6 +220,7 @@ fn taken(
     if taken.fault == intake::FINE {
         let known = lines_of(taken.count, is_text);
         return enter(
+            line,
             name,
             label,
             folder,
@@ -233,7 +232,7 @@ fn taken(
         );
     }
     removed(path);
-    undone(name, taken.line, taken.column)
+    undone(line, name, taken.line, taken.column)
 }
 
 // One job, by its name.
@@ -252,14 +251,16 @@ fn one(
     let program = edge::put_text(&mut label, 0, b"lot: ");
     let labelled = edge::put_text(&mut label, program, name);
     let mut path = path_buffer();
+    let mut line = path_buffer();
     let n = put_path(&mut path, folder, b"/", name, b".register");
     if resume {
         let events = events_at(&path[..n]);
         if 0 < events {
-            return kept(name, events);
+            return kept(&mut line, name, events);
         }
     }
     taken(
+        &mut line,
         name,
         &label[..labelled],
         folder,
@@ -353,10 +354,10 @@ fn turn(
     next
 }
 
-fn window_buffer() -> [u8; 8192]
-    ensures { λ r. ⌜ 8192 ≡ length r ⌝ }
+fn window_buffer() -> [u8; 5120]
+    ensures { λ r. ⌜ 5120 ≡ length r ⌝ }
 {
-    [0; 8192]
+    [0; 5120]
 }
 
 fn job_buffer() -> [u8; 8233]

@@ -6,11 +6,11 @@ use Rattle.groupings.proofs.print_order.Statement.{statement}
 use Rattle.groupings.proofs.print_order.Tie as tie
 
 abbrev Inv-loop : tie.InvT-loop
-Inv-loop window₀ out₀ fd label s₀ turns₀ window out s turns =
+Inv-loop window₀ out₀ kept label s₀ turns₀ window out s turns =
     (s .kept ≤ length window) × (s .filled ≤ length out) × (length window ≡ length window₀) × (length out ≡ length out₀)
 
 abbrev μ-loop : tie.MeasureT-loop
-μ-loop window₀ out₀ fd label s₀ turns₀ window out s turns = turns
+μ-loop window₀ out₀ kept label s₀ turns₀ window out s turns = turns
 
 loop-holds : tie.Need-loop-holds Inv-loop μ-loop
 loop-holds c = search needs

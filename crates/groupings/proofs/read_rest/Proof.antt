@@ -5,11 +5,11 @@ use Rattle.groupings.proofs.read_rest.Statement.{statement}
 use Rattle.groupings.proofs.read_rest.Tie as tie
 
 abbrev Inv-loop : tie.InvT-loop
-Inv-loop window₀ ended fd label count₀ over₀ turns₀ window count over turns =
+Inv-loop window₀ label count₀ left₀ turns₀ window count left turns =
     length window ≡ length window₀
 
 abbrev μ-loop : tie.MeasureT-loop
-μ-loop window₀ ended fd label count₀ over₀ turns₀ window count over turns = turns
+μ-loop window₀ label count₀ left₀ turns₀ window count left turns = turns
 
 loop-holds : tie.Need-loop-holds Inv-loop μ-loop
 loop-holds c = search needs

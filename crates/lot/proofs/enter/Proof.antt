@@ -50,6 +50,9 @@ same-length c = search needs
 same-length-2 : tie.Need-same-length-2
 same-length-2 c = search needs
 
+same-length-3 : tie.Need-same-length-3
+same-length-3 c = search needs
+
 returns : tie.Need-returns
 returns c = search needs
 
@@ -64,16 +67,19 @@ array-share-prefix-out c = search needs
 
 slice-aggregate-register-of : tie.Need-slice-aggregate-register-of
 slice-aggregate-register-of c =
-    sym (length-take-le _ _ (omega (arith, c .before .before .before .before .before .before .before .before .before .enter-job .ensures .1, c .before .before .before .before .before .before .before .before .before .enter-job .kept .1 .1 .1 .1 .0, c .before .before .before .before .before .before .before .before .before .before .before .before .before .before .before .register-buffer .ensures)))
+    sym (length-take-le _ _ (omega (arith, c .before .before .before .before .before .before .before .before .before .before .enter-job .ensures .1, c .before .before .before .before .before .before .before .before .before .before .enter-job .kept .1 .1 .1 .1 .0, c .before .before .before .before .before .before .before .before .before .before .before .before .before .before .before .before .register-buffer .ensures)))
 
 register-of-requires : tie.Need-register-of-requires
 register-of-requires c κs = search needs
 
-same-length-3 : tie.Need-same-length-3
-same-length-3 c = search needs
-
 same-length-4 : tie.Need-same-length-4
 same-length-4 c = search needs
+
+same-length-5 : tie.Need-same-length-5
+same-length-5 c = search needs
+
+same-length-6 : tie.Need-same-length-6
+same-length-6 c = search needs
 
 returns-2 : tie.Need-returns-2
 returns-2 c = search needs
@@ -93,12 +99,14 @@ enter-spec =
     refused-requires
     same-length
     same-length-2
+    same-length-3
     returns
     mul-size
     add-size
     array-share-prefix-out
     slice-aggregate-register-of
     register-of-requires
-    same-length-3
     same-length-4
+    same-length-5
+    same-length-6
     returns-2)

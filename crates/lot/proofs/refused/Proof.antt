@@ -11,7 +11,6 @@ use Rattle.lot.proofs.refused.Statement.{statement}
 use Rattle.lot.proofs.refused.Tie as tie
 use Rattle.lot.proofs.refused.Reads as reads
 use Rattle.lot.proofs.refused.Lts as lts
-use Rattle.edge.proofs.label_buffer.Reads as label-buffer-reads
 use Rattle.intake.proofs.chip_end.Reads as chip-end-reads
 use Rattle.intake.proofs.say_refused.Reads as say-refused-reads
 use Rattle.intake.proofs.why_of.Reads as why-of-reads
@@ -45,36 +44,33 @@ say-refused-requires c κs = search needs
 removed-requires : tie.Need-removed-requires
 removed-requires c κs = search needs
 
-label-buffer-requires : tie.Need-label-buffer-requires
-label-buffer-requires c κs = search needs
-
-slice-aggregate-put-name : tie.Need-slice-aggregate-put-name
-slice-aggregate-put-name c = search needs
-
 put-name-requires : tie.Need-put-name-requires
 put-name-requires c κs = search needs
-
-slice-aggregate-put-refused : tie.Need-slice-aggregate-put-refused
-slice-aggregate-put-refused c = search needs
 
 put-refused-requires : tie.Need-put-refused-requires
 put-refused-requires c κs = search needs
 
-array-share-prefix-line : tie.Need-array-share-prefix-line
-array-share-prefix-line c = search needs
+slice-reshare-prefix-told : tie.Need-slice-reshare-prefix-told
+slice-reshare-prefix-told c = search needs
 
 slice-aggregate-told : tie.Need-slice-aggregate-told
 slice-aggregate-told c =
-    sym (length-take-le _ _ (omega (arith, c .before .before .put-refused .ensures .1, c .before .before .put-refused .kept .0)))
+    sym (length-take-le _ _ (omega (arith, c .before .before .before .put-refused .ensures .1, c .before .before .before .put-refused .kept .0)))
 
 told-requires : tie.Need-told-requires
 told-requires c κs = search needs
+
+same-length : tie.Need-same-length
+same-length c = search needs
 
 returns : tie.Need-returns
 returns c = search needs
 
 undone-requires : tie.Need-undone-requires
 undone-requires c κs = search needs
+
+same-length-2 : tie.Need-same-length-2
+same-length-2 c = search needs
 
 returns-2 : tie.Need-returns-2
 returns-2 c = search needs
@@ -91,14 +87,13 @@ refused-spec =
     why-of-requires
     say-refused-requires
     removed-requires
-    label-buffer-requires
-    slice-aggregate-put-name
     put-name-requires
-    slice-aggregate-put-refused
     put-refused-requires
-    array-share-prefix-line
+    slice-reshare-prefix-told
     slice-aggregate-told
     told-requires
+    same-length
     returns
     undone-requires
+    same-length-2
     returns-2)

@@ -34,6 +34,9 @@ removed-requires c κs = search needs
 undone-requires : tie.Need-undone-requires
 undone-requires c κs = search needs
 
+same-length : tie.Need-same-length
+same-length c = search needs
+
 returns : tie.Need-returns
 returns c = search needs
 
@@ -57,20 +60,17 @@ slice-reshare-prefix-enter c = search needs
 
 slice-aggregate-enter : tie.Need-slice-aggregate-enter
 slice-aggregate-enter c =
-    sym (length-take-le _ _ (omega (arith, c .before .before .before .before .before .before .before .before .before .before .before .take .ensures, c .before .before .before .before .before .before .before .before .before .before .before .take .kept .1 .1 .0)))
+    sym (length-take-le _ _ (omega (arith, c .before .before .before .before .before .before .before .before .before .before .before .before .take .ensures, c .before .before .before .before .before .before .before .before .before .before .before .before .take .kept .1 .1 .0)))
 
 slice-reshare-prefix-enter-2 : tie.Need-slice-reshare-prefix-enter-2
 slice-reshare-prefix-enter-2 c = search needs
 
 slice-aggregate-enter-2 : tie.Need-slice-aggregate-enter-2
 slice-aggregate-enter-2 c =
-    sym (length-take-le _ _ (omega (arith, c .before .before .lines-of .ensures, c .before .before .before .before .before .before .before .before .before .before .before .before .take .ensures, c .before .before .before .before .before .before .before .before .before .before .before .before .take .kept .1 .1 .1 .0, c .before .before .before .before .before .before .before .before .before .before .before .before .before .before .before .before .before .before .before .before .before .before .before .before .before .before .pre)))
+    sym (length-take-le _ _ (omega (arith, c .before .before .before .lines-of .ensures, c .before .before .before .before .before .before .before .before .before .before .before .before .before .take .ensures, c .before .before .before .before .before .before .before .before .before .before .before .before .before .take .kept .1 .1 .1 .0, c .before .before .before .before .before .before .before .before .before .before .before .before .before .before .before .before .before .before .before .before .before .before .before .before .before .before .before .before .pre)))
 
 enter-requires : tie.Need-enter-requires
 enter-requires c κs = search needs
-
-same-length : tie.Need-same-length
-same-length c = search needs
 
 same-length-2 : tie.Need-same-length-2
 same-length-2 c = search needs
@@ -81,6 +81,12 @@ same-length-3 c = search needs
 same-length-4 : tie.Need-same-length-4
 same-length-4 c = search needs
 
+same-length-5 : tie.Need-same-length-5
+same-length-5 c = search needs
+
+same-length-6 : tie.Need-same-length-6
+same-length-6 c = search needs
+
 returns-2 : tie.Need-returns-2
 returns-2 c = search needs
 
@@ -90,11 +96,14 @@ removed-requires-2 c κs = search needs
 undone-requires-2 : tie.Need-undone-requires-2
 undone-requires-2 c κs = search needs
 
-same-length-5 : tie.Need-same-length-5
-same-length-5 c = search needs
+same-length-7 : tie.Need-same-length-7
+same-length-7 c = search needs
 
-same-length-6 : tie.Need-same-length-6
-same-length-6 c = search needs
+same-length-8 : tie.Need-same-length-8
+same-length-8 c = search needs
+
+same-length-9 : tie.Need-same-length-9
+same-length-9 c = search needs
 
 returns-3 : tie.Need-returns-3
 returns-3 c = search needs
@@ -107,6 +116,7 @@ taken-spec =
     fail-requires
     removed-requires
     undone-requires
+    same-length
     returns
     is-text-name-requires
     take-requires
@@ -118,13 +128,15 @@ taken-spec =
     slice-reshare-prefix-enter-2
     slice-aggregate-enter-2
     enter-requires
-    same-length
     same-length-2
     same-length-3
     same-length-4
+    same-length-5
+    same-length-6
     returns-2
     removed-requires-2
     undone-requires-2
-    same-length-5
-    same-length-6
+    same-length-7
+    same-length-8
+    same-length-9
     returns-3)
