@@ -19,7 +19,7 @@ const CAPACITY: usize = 36;
 
 const ORDER_LIMIT: usize = 8192;
 
-const BLOCK_SIZE: usize = 4096;
+const BLOCK_SIZE: usize = 1024;
 
 // How the reading ended: well, by a character that is no digit, by half a byte, or by a read that failed.
 pub const FINE: u8 = 0;
@@ -63,12 +63,19 @@ fn ended(count: usize, last: Reading) -> Job
     }
 }
 
+// Small, since a lot has much else on its stack.
+fn block_buffer() -> [u8; 1024]
+    ensures { λ r. ⌜ 1024 ≡ length r ⌝ }
+{
+    [0; 1024]
+}
+
 // Block after block. The loop counts its turns down from a number that no run uses up, since nothing says that an input ends.
 fn take_text(fd: i32, room: &mut [u8], lines: &mut [u32]) -> Job
     requires { ⌜ length (now lines) ≡ length (now room) ⌝ }
     ensures { λ r. ⌜ r .count ≤ length (now (room .entry)) ⌝ }
 {
-    let mut block = io::buffer();
+    let mut block = block_buffer();
     let mut r = text::start();
     let mut turns = u64::MAX;
     while 0 < turns {

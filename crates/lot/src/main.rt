@@ -136,7 +136,14 @@ fn written(part: &[u8], path: &[u8], register: &[u8]) -> bool {
 }
 
 // A job of which a register was made. The line's room has the path of the part before it has the line.
-fn register_of(line: &mut [u8], name: &[u8], folder: &[u8], path: &[u8], register: &[u8], entry: Entry) -> u8 {
+fn register_of(
+    line: &mut [u8],
+    name: &[u8],
+    folder: &[u8],
+    path: &[u8],
+    register: &[u8],
+    entry: Entry,
+) -> u8 {
     let n = put_path(line, folder, b"/.", name, b".register.part");
     if written(&line[..n], path, register) {
         return entered(line, name, entry);
@@ -146,7 +153,15 @@ fn register_of(line: &mut [u8], name: &[u8], folder: &[u8], path: &[u8], registe
 }
 
 // A job that is refused by a number: in words, as a line, and without a register.
-fn refused(line: &mut [u8], name: &[u8], label: &[u8], path: &[u8], number: u8, job: &[u8], lines: &[u32]) -> u8 {
+fn refused(
+    line: &mut [u8],
+    name: &[u8],
+    label: &[u8],
+    path: &[u8],
+    number: u8,
+    job: &[u8],
+    lines: &[u32],
+) -> u8 {
     let end = intake::chip_end(job.len());
     let chip = &job[..end];
     let why = intake::why_of(number, chip, &job[end..]);
@@ -354,10 +369,10 @@ fn turn(
     next
 }
 
-fn window_buffer() -> [u8; 5120]
-    ensures { λ r. ⌜ 5120 ≡ length r ⌝ }
+fn window_buffer() -> [u8; 4352]
+    ensures { λ r. ⌜ 4352 ≡ length r ⌝ }
 {
-    [0; 5120]
+    [0; 4352]
 }
 
 fn job_buffer() -> [u8; 8233]
@@ -449,13 +464,22 @@ fn run(o: Options, folder: &[u8])
     }
 }
 
+fn folder_buffer() -> [u8; 1024]
+    ensures { λ r. ⌜ 1024 ≡ length r ⌝ }
+{
+    [0; 1024]
+}
+
 fn say_usage() {
-    edge::say(b"lot: ", b"usage: lot [-0] [--resume] [--part K/N] OUT\n");
+    edge::say(
+        b"lot: ",
+        b"usage: lot [-0] [--resume] [--part K/N] OUT, a name of at most 1,024 bytes\n",
+    );
 }
 
 fn main() {
     let o = read_options();
-    let mut folder = io::buffer();
+    let mut folder = folder_buffer();
     let n = os::arg(o.folder, &mut folder);
     if n == 0 {
         say_usage();

@@ -14,26 +14,26 @@ use Rattle.intake.proofs.take_text.Lts as lts
 use Rattle.edge.proofs.read_full.Reads as read-full-reads
 use Rattle.intake.proofs.ended.Reads as ended-reads
 use Rattle.intake.proofs.job_of.Reads as job-of-reads
-use Rattle.io.proofs.buffer.Reads as buffer-reads
+use Rattle.intake.proofs.block_buffer.Reads as block-buffer-reads
 use Rattle.text.proofs.finish.Reads as finish-reads
 use Rattle.text.proofs.read.Reads as read-reads
 use Rattle.text.proofs.start.Reads as start-reads
 
 abbrev Inv-loop : tie.InvT-loop
 Inv-loop fd room₀ lines₀ block₀ r₀ turns₀ room lines block r turns =
-    (length room ≡ length room₀) × (length lines ≡ length lines₀) × (length block ≡ 4096) × (r .count ≤ length room)
+    (length room ≡ length room₀) × (length lines ≡ length lines₀) × (length block ≡ 1024) × (r .count ≤ length room)
 
 abbrev μ-loop : tie.MeasureT-loop
 μ-loop fd room₀ lines₀ block₀ r₀ turns₀ room lines block r turns = turns
 
-buffer-requires : tie.Need-buffer-requires Inv-loop μ-loop
-buffer-requires c κs = search needs
+block-buffer-requires : tie.Need-block-buffer-requires Inv-loop μ-loop
+block-buffer-requires c κs = search needs
 
 start-requires : tie.Need-start-requires Inv-loop μ-loop
 start-requires c κs = search needs
 
 loop-holds : tie.Need-loop-holds Inv-loop μ-loop
-loop-holds c = (refl, refl, sym (c .before .buffer .ensures), rw (c .start .ensures) (omega arith))
+loop-holds c = (refl, refl, sym (c .before .block-buffer .ensures), rw (c .start .ensures) (omega arith))
 
 slice-aggregate-read-full : tie.Need-slice-aggregate-read-full Inv-loop μ-loop
 slice-aggregate-read-full c = search needs
@@ -111,7 +111,7 @@ take-text-spec =
     (tie.spec
     Inv-loop
     μ-loop
-    buffer-requires
+    block-buffer-requires
     start-requires
     loop-holds
     slice-aggregate-read-full

@@ -23,8 +23,8 @@ use Rattle.lot.proofs.window_buffer.Reads as window-buffer-reads
 
 abbrev Inv-loop : tie.InvT-loop
 Inv-loop o folder window₀ job₀ lines₀ room₀ area₀ separator lot₀ at₀ filled₀ turns₀ window job lines room area lot at filled turns =
-    (length window ≡ 5120) × (length job ≡ 8233) × (length lines ≡ 8233) × (length room ≡ 12220) × (length area ≡ 4096)
-    × (at ≤ filled) × (filled ≤ 5120)
+    (length window ≡ 4352) × (length job ≡ 8233) × (length lines ≡ 8233) × (length room ≡ 12220) × (length area ≡ 4096)
+    × (at ≤ filled) × (filled ≤ 4352)
 
 abbrev μ-loop : tie.MeasureT-loop
 μ-loop o folder window₀ job₀ lines₀ room₀ area₀ separator lot₀ at₀ filled₀ turns₀ window job lines room area lot at filled turns = turns
