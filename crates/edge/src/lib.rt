@@ -15,6 +15,7 @@ pub use text::put_text;
 pub use text::say;
 pub use text::say_form;
 ghost use mathlib.Core.Path.{_≡_};
+ghost use mathlib.Core.Bool.{cond};
 ghost use Prim.Native.Nat.{_≤_};
 ghost use lib.ListN.{length};
 ghost use Rattle.io.specs.Counts.{Counts};
@@ -164,7 +165,9 @@ pub const REFUSED: u8 = 1;
 
 pub const NOT_DONE: u8 = 2;
 
-pub fn status_of(refused: bool) -> u8 {
+pub fn status_of(refused: bool) -> u8
+    ensures { λ r. ⌜ r ≡ cond refused 1 0 ⌝ }
+{
     if refused {
         return REFUSED;
     }

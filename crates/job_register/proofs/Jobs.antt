@@ -1,11 +1,10 @@
 -- A job's numbers, and its register.
-use Prim.Native.Nat.{ℕ, _+_, _*_, _-_, _≤_, _/_}
-use mathlib.Core.Path.{_≡_, refl, ap, sym, _∙_, subst}
-use mathlib.Core.Bool.{Bool, true, false, cond, not}
-use mathlib.Core.List.{List, [], _∷_, _++_}
+use Prim.Native.Nat.{ℕ, _+_, _*_, _≤_}
+use mathlib.Core.Path.{_≡_, ap, sym, _∙_}
+use mathlib.Core.List.{List, [], _++_}
 use native.Mathlib.Omega.{arith}
-use lib.Dec.{eqb, ltb}
-use lib.ListN.{length, take, drop, length-take, take-append-drop}
+use lib.Dec.{ltb}
+use lib.ListN.{length, take, drop, take-append-drop}
 use lib.Seq.{take-at, length-take-le}
 use borrow.Author.Tests.{eq-eqb, ne-eqb, ltb-false}
 use Rattle.lists.specs.Choice.{by-cond}
@@ -13,12 +12,12 @@ use Rattle.lists.specs.Over.{overwrite, over-none, over-left, over-zero, length
 use Rattle.model.specs.declared.Written.{Written}
 use Rattle.model.specs.Stored.{areaSize, recordSize}
 use Rattle.model.specs.Session.{eventsIn}
-use Rattle.model.specs.Order.{Writing, noWriting}
+use Rattle.model.specs.Order.{Writing}
 use Rattle.cutting.specs.Job.{sessionOf}
 use Rattle.job_session.specs.Laid.{sessionWriting, sessionBytes, Lays}
 use Rattle.job_session.proofs.Sessions.{session-length, session-fits, session-few}
 use Rattle.job_register.specs.declared.Entry.{Entry}
-use Rattle.job_register.specs.Jobs.{lineRoom, recordRoom, jobWriting, eventsOf, registerOf, refusedAs, enteredAs, entryOf, textOf, areaOf, Registers, Session, Plays, playedOf}
+use Rattle.job_register.specs.Jobs.{lineRoom, recordRoom, jobWriting, eventsOf, registerOf, refusedAs, entryOf, textOf, areaOf, Registers, Session, Plays, playedOf}
 
 -- a refusal leaves all lent memory as it was
 refusal : (chip room area out : List ℕ) (w : Writing) (n : ℕ) → n ≡ w .number → (n ≡ 0 → ⊥) → Registers chip w room area out (refusedAs n) room area out

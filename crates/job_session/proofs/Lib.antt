@@ -1,4 +1,3 @@
--- The records before the writer's, and the room of those.
+-- The records before the writer's, and the session that they make with those.
 pub mod Laid
-pub mod Rooms
 pub mod Sessions

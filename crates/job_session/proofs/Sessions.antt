@@ -1,19 +1,18 @@
 -- What the writer left behind the first two records, and these laid before it, are the session.
 use Prim.Native.Nat.{ℕ, _+_, _*_, _-_, _≤_, min}
 use mathlib.Core.Path.{_≡_, refl, ap, sym, _∙_}
-use mathlib.Core.Bool.{Bool, true, not}
-use mathlib.Core.List.{List, [], _∷_, _++_, append-assoc}
-use native.Mathlib.Nat.{zero-add}
+use mathlib.Core.Bool.{not}
+use mathlib.Core.List.{List, [], _++_, append-assoc}
 use native.Mathlib.Omega.{arith}
-use lib.Dec.{eqb, ltb}
+use lib.Dec.{ltb}
 use lib.ListN.{length, take, drop, length-take, length-drop, length-append}
 use lib.Seq.{drop-drop, drop-at, length-take-le}
 use borrow.Author.Tests.{eq-eqb, ne-eqb}
 use Rattle.lists.specs.Choice.{by-cond}
 use Rattle.lists.specs.Over.{overwrite, over-none, over-mid, over-part, over-zero, length-over}
 use Rattle.model.specs.declared.Written.{Written}
-use Rattle.model.specs.Stored.{chipOf, chipForm, recordSize, recordOf}
-use Rattle.model.specs.Order.{orderLimit, complete, recordsFor, Writing, noWriting, writeOf}
+use Rattle.model.specs.Stored.{chipOf, chipForm, recordSize}
+use Rattle.model.specs.Order.{orderLimit, complete, recordsFor, Writing, writeOf}
 use Rattle.cutting.specs.Packs as packs
 use Rattle.cutting.specs.Job.{installRecord, selectRecord, installData, instanceName, jobWith, sessionOf, Accepted}
 use Rattle.cutting.proofs.Stored.{record-length}

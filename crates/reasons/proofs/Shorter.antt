@@ -1,7 +1,6 @@
 -- A grouping leaves no more bytes than it was given.
-use Prim.Native.Nat.{ℕ, _+_, _-_, _≤_, _<_}
+use Prim.Native.Nat.{ℕ, _-_, _≤_, _<_}
 use mathlib.Core.Path.{_≡_, sym, subst}
-use mathlib.Core.Bool.{Bool, true, false, cond}
 use mathlib.Core.List.{List}
 use native.Mathlib.Omega.{arith}
 use lib.ListN.{length, drop, length-drop}
@@ -10,8 +9,8 @@ use Rattle.model.specs.declared.Head.{Head}
 use Rattle.model.specs.declared.Open.{Open}
 use Rattle.model.specs.declared.Open.the-variants.{Shut, Table, Record}
 use Rattle.model.specs.Rows.{rowAt}
-use Rattle.model.specs.Loads.{State, changed, withOpen, withTaken}
-use Rattle.model.specs.Rules.{Result, went, asked, failed, Rule, thence, does, ruleA, ruleB, ruleC, ruleD, ruleE, ruleF, ruleG, ruleH, tableBytes, feeding, fed, openedAs, spanned, kept, whole, grouping}
+use Rattle.model.specs.Loads.{State}
+use Rattle.model.specs.Rules.{Result, went, asked, failed, Rule, thence, ruleA, ruleB, ruleC, ruleD, ruleE, ruleF, ruleG, ruleH, tableBytes, feeding, fed, openedAs, spanned, kept, whole, grouping}
 
 -- where it goes on, at most n bytes are left
 abbrev Short : ℕ → Result (List ℕ) → Type 0

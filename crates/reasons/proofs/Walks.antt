@@ -1,7 +1,7 @@
 -- The search for a reason, grouping by grouping, beside the card's walk.
 use Prim.Native.Nat.{ℕ, zero, suc, _+_, _-_, _≤_, _<_}
-use mathlib.Core.Path.{_≡_, refl, sym, ap, _∙_, subst}
-use mathlib.Core.List.{List, [], _∷_, _++_}
+use mathlib.Core.Path.{_≡_, refl, sym, _∙_, subst}
+use mathlib.Core.List.{List, _++_}
 use native.Mathlib.Omega.{arith}
 use lib.ListN.{length, drop, length-drop, length-append, drop-of-length-le}
 use lib.Seq.{drop-cons}
@@ -10,17 +10,16 @@ use Rattle.model.specs.declared.Loading.{Loading}
 use Rattle.model.specs.Loads.{State, fileList, withTaken}
 use Rattle.model.specs.Stored.{freshLoading}
 use Rattle.lists.specs.Bytes.{zeros}
-use Rattle.model.specs.Rules.{Result, went, asked, failed, thence, grouping}
+use Rattle.model.specs.Rules.{went, asked, failed, grouping}
 use Rattle.model.specs.Order.{challengedState}
-use Rattle.soundness.specs.Keeps.{Onward, GoesOn, Kept}
+use Rattle.soundness.specs.Keeps.{GoesOn, Kept}
 use Rattle.soundness.proofs.Keeps.{grouping-goes}
 use Rattle.soundness.proofs.Parts.{sound-parts}
 use Rattle.steps.specs.Steps.{activeLife, stateOf}
 use Rattle.records.specs.Steps.{Walking}
 use Rattle.stops.specs.Stops.{stopOf}
 use Rattle.complete.proofs.Complete.{front}
-use Rattle.reasons.specs.declared.Why.{Why}
-use Rattle.reasons.specs.declared.Why.the-variants.{Complete, Stops}
+use Rattle.reasons.specs.declared.Why.the-variants.{Stops}
 use Rattle.reasons.specs.Reasons.{atEnd, stopsAt, onward, placeOf, whyFrom, whyNot}
 
 module _ (capacity : ℕ) (d : List ℕ) (s : State) where

@@ -1,22 +1,9 @@
-use Prim.Native.Nat.{ℕ, suc, _+_, _*_, _-_, _≤_, _<_, _/_, _%_}
-use mathlib.Core.Path.{_≡_, refl, ap, sym, _∙_}
-use mathlib.Core.List.{List, [], _∷_, _++_}
+use mathlib.Core.Path.{sym}
 use native.Mathlib.Omega.{arith}
-use native.Mathlib.Numerals.{add-one}
-use lib.ListN.{length, take, drop, set, getD, length-set, length-take, length-drop, length-append}
-use denote.Ref.{now}
 use borrow.Author.Needs.{needs}
 use lib.Seq.{length-take-le}
 use Rattle.cut.proofs.cut.Statement.{statement}
 use Rattle.cut.proofs.cut.Tie as tie
-use Rattle.cut.proofs.cut.Reads as reads
-use Rattle.cut.proofs.cut.Lts as lts
-use Rattle.cut.proofs.print.Reads as print-reads
-use Rattle.cut.proofs.record_buffer.Reads as record-buffer-reads
-use Rattle.intake.proofs.chip_end.Reads as chip-end-reads
-use Rattle.intake.proofs.say_refused.Reads as say-refused-reads
-use Rattle.intake.proofs.why_of.Reads as why-of-reads
-use Rattle.job_session.proofs.lay_session.Reads as lay-session-reads
 
 chip-end-requires : tie.Need-chip-end-requires
 chip-end-requires c κs = search needs
@@ -62,7 +49,8 @@ array-share-prefix-room c = search needs
 
 slice-aggregate-print : tie.Need-slice-aggregate-print
 slice-aggregate-print c =
-    sym (length-take-le _ _ (omega (arith, c .before .before .before .before .before .lay-session .ensures .1, c .before .before .before .before .before .lay-session .kept .1 .1 .0, c .before .before .before .before .before .before .before .record-buffer .ensures)))
+    let laid = c .before .before .before .before .before .lay-session in
+    sym (length-take-le _ _ (omega (arith, laid .ensures .1, laid .kept .1 .1 .0, c .before .before .before .before .before .before .before .record-buffer .ensures)))
 
 print-requires : tie.Need-print-requires
 print-requires c κs = search needs

@@ -1,23 +1,11 @@
-use Prim.Native.Nat.{ℕ, suc, _+_, _*_, _-_, _≤_, _<_, _/_, _%_}
-use mathlib.Core.Path.{_≡_, refl, ap, sym, _∙_}
-use mathlib.Core.List.{List, [], _∷_, _++_}
+use Prim.Native.Nat.{_≤_}
+use mathlib.Core.Path.{_≡_, refl, sym, _∙_}
 use native.Mathlib.Omega.{arith}
-use native.Mathlib.Numerals.{add-one}
-use lib.ListN.{length, take, drop, set, getD, length-set, length-take, length-drop, length-append}
-use denote.Ref.{now}
+use lib.ListN.{length}
 use borrow.Author.Needs.{needs}
 use Rattle.text.proofs.Theorems.{within-room}
 use Rattle.intake.proofs.take_text.Statement.{statement}
 use Rattle.intake.proofs.take_text.Tie as tie
-use Rattle.intake.proofs.take_text.Reads as reads
-use Rattle.intake.proofs.take_text.Lts as lts
-use Rattle.edge.proofs.read_full.Reads as read-full-reads
-use Rattle.intake.proofs.ended.Reads as ended-reads
-use Rattle.intake.proofs.job_of.Reads as job-of-reads
-use Rattle.intake.proofs.block_buffer.Reads as block-buffer-reads
-use Rattle.text.proofs.finish.Reads as finish-reads
-use Rattle.text.proofs.read.Reads as read-reads
-use Rattle.text.proofs.start.Reads as start-reads
 
 abbrev Inv-loop : tie.InvT-loop
 Inv-loop fd room₀ lines₀ block₀ r₀ turns₀ room lines block r turns =

@@ -1,24 +1,9 @@
-use Prim.Native.Nat.{ℕ, suc, _+_, _*_, _-_, _≤_, _<_, _/_, _%_}
-use mathlib.Core.Path.{_≡_, refl, ap, sym, _∙_}
-use mathlib.Core.List.{List, [], _∷_, _++_}
+use mathlib.Core.Path.{sym}
 use native.Mathlib.Omega.{arith}
-use native.Mathlib.Numerals.{add-one}
-use lib.ListN.{length, take, drop, set, getD, length-set, length-take, length-drop, length-append}
-use denote.Ref.{now}
 use borrow.Author.Needs.{needs}
 use lib.Seq.{length-take-le}
 use Rattle.job.proofs.enter.Statement.{statement}
 use Rattle.job.proofs.enter.Tie as tie
-use Rattle.job.proofs.enter.Reads as reads
-use Rattle.job.proofs.enter.Lts as lts
-use Rattle.intake.proofs.chip_end.Reads as chip-end-reads
-use Rattle.intake.proofs.say_refused.Reads as say-refused-reads
-use Rattle.intake.proofs.why_of.Reads as why-of-reads
-use Rattle.job.proofs.area_buffer.Reads as area-buffer-reads
-use Rattle.job.proofs.print_register.Reads as print-register-reads
-use Rattle.job.proofs.record_buffer.Reads as record-buffer-reads
-use Rattle.job.proofs.register_buffer.Reads as register-buffer-reads
-use Rattle.job_register.proofs.enter_job.Reads as enter-job-reads
 
 chip-end-requires : tie.Need-chip-end-requires
 chip-end-requires c κs = search needs
@@ -76,7 +61,8 @@ array-share-prefix-out c = search needs
 
 slice-aggregate-print-register : tie.Need-slice-aggregate-print-register
 slice-aggregate-print-register c =
-    sym (length-take-le _ _ (omega (arith, c .before .before .before .before .before .before .before .enter-job .ensures .1, c .before .before .before .before .before .before .before .enter-job .kept .1 .1 .1 .1 .0, c .before .before .before .before .before .before .before .before .before .before .before .register-buffer .ensures)))
+    let entered = c .before .before .before .before .before .before .before .enter-job in
+    sym (length-take-le _ _ (omega (arith, entered .ensures .1, entered .kept .1 .1 .1 .1 .0, c .before .before .before .before .before .before .before .before .before .before .before .register-buffer .ensures)))
 
 print-register-requires : tie.Need-print-register-requires
 print-register-requires c κs = search needs

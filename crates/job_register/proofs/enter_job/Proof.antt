@@ -1,21 +1,12 @@
-use Prim.Native.Nat.{ℕ, suc, _+_, _*_, _-_, _≤_, _<_, _/_, _%_}
-use mathlib.Core.Path.{_≡_, refl, ap, sym, _∙_}
-use mathlib.Core.List.{List, [], _∷_, _++_}
+use mathlib.Core.Path.{sym}
 use native.Mathlib.Omega.{arith}
-use native.Mathlib.Numerals.{add-one}
-use lib.ListN.{length, take, drop, set, getD, length-set, length-take, length-drop, length-append}
+use lib.ListN.{length}
 use denote.Ref.{now}
 use borrow.Author.Needs.{needs}
 use lib.Seq.{length-take-le}
 use Rattle.job_register.proofs.Jobs.{room-within, no-area, refused, few, fits, playable, entered, entered-few}
 use Rattle.job_register.proofs.enter_job.Statement.{statement}
 use Rattle.job_register.proofs.enter_job.Tie as tie
-use Rattle.job_register.proofs.enter_job.Reads as reads
-use Rattle.job_register.proofs.enter_job.Lts as lts
-use Rattle.job_register.proofs.play.Reads as play-reads
-use Rattle.job_register.proofs.refused_by.Reads as refused-by-reads
-use Rattle.job_register.proofs.room_for.Reads as room-for-reads
-use Rattle.job_session.proofs.lay_session.Reads as lay-session-reads
 
 refused-by-requires : tie.Need-refused-by-requires
 refused-by-requires c κs = search needs

@@ -1,9 +1,6 @@
-use Prim.Native.Nat.{ℕ, suc, _+_, _*_, _-_, _≤_, _<_, _/_, _%_}
-use mathlib.Core.Path.{_≡_, refl, ap, sym, _∙_}
-use mathlib.Core.List.{List, [], _∷_, _++_}
+use mathlib.Core.Path.{_≡_, ap}
 use native.Mathlib.Omega.{arith}
-use native.Mathlib.Numerals.{add-one}
-use lib.ListN.{length, take, drop, set, getD, length-set, length-take, length-drop, length-append}
+use lib.ListN.{length}
 use denote.Ref.{now}
 use borrow.Author.Needs.{needs}
 use Rattle.lists.specs.Bytes.{zeros}
@@ -15,12 +12,6 @@ use Rattle.job_register.specs.Jobs.{playedOf}
 use Rattle.job_register.proofs.Plays.{ends, answered}
 use Rattle.job_register.proofs.play.Statement.{statement}
 use Rattle.job_register.proofs.play.Tie as tie
-use Rattle.job_register.proofs.play.Reads as reads
-use Rattle.job_register.proofs.play.Lts as lts
-use Rattle.ending.proofs.put_end.Reads as put-end-reads
-use Rattle.fresh.proofs.fresh.Reads as fresh-reads
-use Rattle.register.proofs.enter_all.Reads as enter-all-reads
-use Rattle.slices.proofs.clear.Reads as clear-reads
 
 fresh-requires : tie.Need-fresh-requires
 fresh-requires c κs = search needs

@@ -1,10 +1,5 @@
-use Prim.Native.Nat.{ℕ, suc, _+_, _*_, _-_, _≤_, _<_, _/_, _%_}
-use mathlib.Core.Path.{_≡_, refl, ap, sym, _∙_}
-use mathlib.Core.List.{List, [], _∷_, _++_}
-use native.Mathlib.Omega.{arith}
+use mathlib.Core.Path.{sym, _∙_}
 use native.Mathlib.Nat.{zero-add}
-use native.Mathlib.Numerals.{add-one}
-use lib.ListN.{length, take, drop, set, getD, length-set, length-take, length-drop, length-append}
 use denote.Ref.{now}
 use borrow.Author.Needs.{needs}
 use Rattle.lists.specs.Over.{over-then}
@@ -12,11 +7,6 @@ use Rattle.cutting.specs.Job.{installRecord, selectRecord}
 use Rattle.job_session.proofs.Sessions.{install-length}
 use Rattle.job_session.proofs.lay_front.Statement.{statement}
 use Rattle.job_session.proofs.lay_front.Tie as tie
-use Rattle.job_session.proofs.lay_front.Reads as reads
-use Rattle.job_session.proofs.lay_front.Lts as lts
-use Rattle.job_session.proofs.install_record.Reads as install-record-reads
-use Rattle.job_session.proofs.select_record.Reads as select-record-reads
-use Rattle.slices.proofs.put_bytes.Reads as put-bytes-reads
 
 install-record-requires : tie.Need-install-record-requires
 install-record-requires c κs = search needs

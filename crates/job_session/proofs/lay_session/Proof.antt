@@ -1,19 +1,8 @@
-use Prim.Native.Nat.{ℕ, suc, _+_, _*_, _-_, _≤_, _<_, _/_, _%_}
-use mathlib.Core.Path.{_≡_, refl, ap, sym, _∙_}
-use mathlib.Core.List.{List, [], _∷_, _++_}
-use native.Mathlib.Omega.{arith}
-use native.Mathlib.Numerals.{add-one}
-use lib.ListN.{length, take, drop, set, getD, length-set, length-take, length-drop, length-append}
 use denote.Ref.{now}
 use borrow.Author.Needs.{needs}
 use Rattle.job_session.proofs.Sessions.{refused, refused-none-written, front-fits, passed, passed-few}
 use Rattle.job_session.proofs.lay_session.Statement.{statement}
 use Rattle.job_session.proofs.lay_session.Tie as tie
-use Rattle.job_session.proofs.lay_session.Reads as reads
-use Rattle.job_session.proofs.lay_session.Lts as lts
-use Rattle.job_session.proofs.front_in.Reads as front-in-reads
-use Rattle.job_session.proofs.lay_front.Reads as lay-front-reads
-use Rattle.writer.proofs.write.Reads as write-reads
 
 front-in-requires : tie.Need-front-in-requires
 front-in-requires c κs = search needs

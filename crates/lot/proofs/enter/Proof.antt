@@ -1,21 +1,9 @@
-use Prim.Native.Nat.{ℕ, suc, _+_, _*_, _-_, _≤_, _<_, _/_, _%_}
-use mathlib.Core.Path.{_≡_, refl, ap, sym, _∙_}
-use mathlib.Core.List.{List, [], _∷_, _++_}
+use mathlib.Core.Path.{sym}
 use native.Mathlib.Omega.{arith}
-use native.Mathlib.Numerals.{add-one}
-use lib.ListN.{length, take, drop, set, getD, length-set, length-take, length-drop, length-append}
-use denote.Ref.{now}
 use borrow.Author.Needs.{needs}
 use lib.Seq.{length-take-le}
 use Rattle.lot.proofs.enter.Statement.{statement}
 use Rattle.lot.proofs.enter.Tie as tie
-use Rattle.lot.proofs.enter.Reads as reads
-use Rattle.lot.proofs.enter.Lts as lts
-use Rattle.intake.proofs.chip_end.Reads as chip-end-reads
-use Rattle.job_register.proofs.enter_job.Reads as enter-job-reads
-use Rattle.lot.proofs.refused.Reads as refused-reads
-use Rattle.lot.proofs.register_buffer.Reads as register-buffer-reads
-use Rattle.lot.proofs.register_of.Reads as register-of-reads
 
 chip-end-requires : tie.Need-chip-end-requires
 chip-end-requires c κs = search needs
@@ -67,7 +55,9 @@ array-share-prefix-out c = search needs
 
 slice-aggregate-register-of : tie.Need-slice-aggregate-register-of
 slice-aggregate-register-of c =
-    sym (length-take-le _ _ (omega (arith, c .before .before .before .before .before .before .before .before .before .before .enter-job .ensures .1, c .before .before .before .before .before .before .before .before .before .before .enter-job .kept .1 .1 .1 .1 .0, c .before .before .before .before .before .before .before .before .before .before .before .before .before .before .before .before .register-buffer .ensures)))
+    let entered = c .before .before .before .before .before .before .before .before .before .before .enter-job in
+    let register-buffer = c .before .before .before .before .before .before .before .before .before .before .before .before .before .before .before .before .register-buffer in
+    sym (length-take-le _ _ (omega (arith, entered .ensures .1, entered .kept .1 .1 .1 .1 .0, register-buffer .ensures)))
 
 register-of-requires : tie.Need-register-of-requires
 register-of-requires c κs = search needs

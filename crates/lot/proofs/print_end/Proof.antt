@@ -1,19 +1,9 @@
-use Prim.Native.Nat.{ℕ, suc, _+_, _*_, _-_, _≤_, _<_, _/_, _%_}
-use mathlib.Core.Path.{_≡_, refl, ap, sym, _∙_}
-use mathlib.Core.List.{List, [], _∷_, _++_}
+use mathlib.Core.Path.{sym}
 use native.Mathlib.Omega.{arith}
-use native.Mathlib.Numerals.{add-one}
-use lib.ListN.{length, take, drop, set, getD, length-set, length-take, length-drop, length-append}
-use denote.Ref.{now}
 use borrow.Author.Needs.{needs}
 use lib.Seq.{length-take-le}
 use Rattle.lot.proofs.print_end.Statement.{statement}
 use Rattle.lot.proofs.print_end.Tie as tie
-use Rattle.lot.proofs.print_end.Reads as reads
-use Rattle.lot.proofs.print_end.Lts as lts
-use Rattle.edge.proofs.print.Reads as print-reads
-use Rattle.lot.proofs.sum.Reads as sum-reads
-use Rattle.wording.proofs.put_form.Reads as put-form-reads
 
 sum-requires : tie.Need-sum-requires
 sum-requires c κs = search needs

@@ -1,24 +1,9 @@
-use Prim.Native.Nat.{ℕ, suc, _+_, _*_, _-_, _≤_, _<_, _/_, _%_}
-use mathlib.Core.Path.{_≡_, refl, ap, sym, _∙_}
-use mathlib.Core.List.{List, [], _∷_, _++_}
+use mathlib.Core.Path.{sym}
 use native.Mathlib.Omega.{arith}
-use native.Mathlib.Numerals.{add-one}
-use lib.ListN.{length, take, drop, set, getD, length-set, length-take, length-drop, length-append}
-use denote.Ref.{now}
 use borrow.Author.Needs.{needs}
 use lib.Seq.{length-take-le}
 use Rattle.lot.proofs.refused.Statement.{statement}
 use Rattle.lot.proofs.refused.Tie as tie
-use Rattle.lot.proofs.refused.Reads as reads
-use Rattle.lot.proofs.refused.Lts as lts
-use Rattle.intake.proofs.chip_end.Reads as chip-end-reads
-use Rattle.intake.proofs.say_refused.Reads as say-refused-reads
-use Rattle.intake.proofs.why_of.Reads as why-of-reads
-use Rattle.lot.proofs.line.put_name.Reads as put-name-reads
-use Rattle.lot.proofs.line.put_refused.Reads as put-refused-reads
-use Rattle.lot.proofs.removed.Reads as removed-reads
-use Rattle.lot.proofs.told.Reads as told-reads
-use Rattle.lot.proofs.undone.Reads as undone-reads
 
 chip-end-requires : tie.Need-chip-end-requires
 chip-end-requires c κs = search needs

@@ -1,25 +1,10 @@
-use Prim.Native.Nat.{ℕ, suc, _+_, _*_, _-_, _≤_, _<_, _/_, _%_}
-use mathlib.Core.Path.{_≡_, refl, ap, sym, _∙_}
-use mathlib.Core.List.{List, [], _∷_, _++_}
+use Prim.Native.Nat.{_≤_}
+use mathlib.Core.Path.{_≡_, sym, _∙_}
 use native.Mathlib.Omega.{arith}
-use native.Mathlib.Numerals.{add-one}
-use lib.ListN.{length, take, drop, set, getD, length-set, length-take, length-drop, length-append}
-use denote.Ref.{now}
+use lib.ListN.{length}
 use borrow.Author.Needs.{needs}
 use Rattle.lot.proofs.run.Statement.{statement}
 use Rattle.lot.proofs.run.Tie as tie
-use Rattle.lot.proofs.run.Reads as reads
-use Rattle.lot.proofs.run.Lts as lts
-use Rattle.lot.proofs.area_buffer.Reads as area-buffer-reads
-use Rattle.lot.proofs.job_buffer.Reads as job-buffer-reads
-use Rattle.lot.proofs.line_buffer.Reads as line-buffer-reads
-use Rattle.lot.proofs.names.next_name.Reads as next-name-reads
-use Rattle.lot.proofs.new_lot.Reads as new-lot-reads
-use Rattle.lot.proofs.print_end.Reads as print-end-reads
-use Rattle.lot.proofs.record_buffer.Reads as record-buffer-reads
-use Rattle.lot.proofs.separator_of.Reads as separator-of-reads
-use Rattle.lot.proofs.turn.Reads as turn-reads
-use Rattle.lot.proofs.window_buffer.Reads as window-buffer-reads
 
 abbrev Inv-loop : tie.InvT-loop
 Inv-loop o folder window₀ job₀ lines₀ room₀ area₀ separator lot₀ at₀ filled₀ turns₀ window job lines room area lot at filled turns =

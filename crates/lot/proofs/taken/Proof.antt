@@ -1,26 +1,10 @@
-use Prim.Native.Nat.{ℕ, suc, _+_, _*_, _-_, _≤_, _<_, _/_, _%_}
-use mathlib.Core.Path.{_≡_, refl, ap, sym, _∙_}
-use mathlib.Core.List.{List, [], _∷_, _++_}
+use mathlib.Core.Path.{sym}
 use native.Mathlib.Omega.{arith}
-use native.Mathlib.Numerals.{add-one}
-use lib.ListN.{length, take, drop, set, getD, length-set, length-take, length-drop, length-append}
-use denote.Ref.{now}
+use lib.ListN.{take}
 use borrow.Author.Needs.{needs}
 use lib.Seq.{length-take-le}
 use Rattle.lot.proofs.taken.Statement.{statement}
 use Rattle.lot.proofs.taken.Tie as tie
-use Rattle.lot.proofs.taken.Reads as reads
-use Rattle.lot.proofs.taken.Lts as lts
-use Rattle.intake.proofs.is_text_name.Reads as is-text-name-reads
-use Rattle.intake.proofs.say_unread.Reads as say-unread-reads
-use Rattle.intake.proofs.take.Reads as take-reads
-use Rattle.libc.proofs.close.Reads as close-reads
-use Rattle.lot.proofs.enter.Reads as enter-reads
-use Rattle.lot.proofs.lines_of.Reads as lines-of-reads
-use Rattle.lot.proofs.removed.Reads as removed-reads
-use Rattle.lot.proofs.undone.Reads as undone-reads
-use Rattle.os.proofs.fail.Reads as fail-reads
-use Rattle.os.proofs.open_read.Reads as open-read-reads
 
 open-read-requires : tie.Need-open-read-requires
 open-read-requires c κs = search needs
@@ -60,14 +44,17 @@ slice-reshare-prefix-enter c = search needs
 
 slice-aggregate-enter : tie.Need-slice-aggregate-enter
 slice-aggregate-enter c =
-    sym (length-take-le _ _ (omega (arith, c .before .before .before .before .before .before .before .before .before .before .before .before .take .ensures, c .before .before .before .before .before .before .before .before .before .before .before .before .take .kept .1 .1 .0)))
+    let take = c .before .before .before .before .before .before .before .before .before .before .before .before .take in
+    sym (length-take-le _ _ (omega (arith, take .ensures, take .kept .1 .1 .0)))
 
 slice-reshare-prefix-enter-2 : tie.Need-slice-reshare-prefix-enter-2
 slice-reshare-prefix-enter-2 c = search needs
 
 slice-aggregate-enter-2 : tie.Need-slice-aggregate-enter-2
 slice-aggregate-enter-2 c =
-    sym (length-take-le _ _ (omega (arith, c .before .before .before .lines-of .ensures, c .before .before .before .before .before .before .before .before .before .before .before .before .before .take .ensures, c .before .before .before .before .before .before .before .before .before .before .before .before .before .take .kept .1 .1 .1 .0, c .before .before .before .before .before .before .before .before .before .before .before .before .before .before .before .before .before .before .before .before .before .before .before .before .before .before .before .before .pre)))
+    let take = c .before .before .before .before .before .before .before .before .before .before .before .before .before .take in
+    let s = c .before .before .before .before .before .before .before .before .before .before .before .before .before .before .before .before .before .before .before .before .before .before .before .before .before .before .before .before in
+    sym (length-take-le _ _ (omega (arith, c .before .before .before .lines-of .ensures, take .ensures, take .kept .1 .1 .1 .0, s .pre)))
 
 enter-requires : tie.Need-enter-requires
 enter-requires c κs = search needs

@@ -1,19 +1,9 @@
-use Prim.Native.Nat.{ℕ, suc, _+_, _*_, _-_, _≤_, _<_, _/_, _%_}
-use mathlib.Core.Path.{_≡_, refl, ap, sym, _∙_}
-use mathlib.Core.List.{List, [], _∷_, _++_}
+use mathlib.Core.Path.{sym}
 use native.Mathlib.Omega.{arith}
-use native.Mathlib.Numerals.{add-one}
-use lib.ListN.{length, take, drop, set, getD, length-set, length-take, length-drop, length-append}
-use denote.Ref.{now}
 use borrow.Author.Needs.{needs}
 use lib.Seq.{length-take-le}
 use Rattle.lot.proofs.undone.Statement.{statement}
 use Rattle.lot.proofs.undone.Tie as tie
-use Rattle.lot.proofs.undone.Reads as reads
-use Rattle.lot.proofs.undone.Lts as lts
-use Rattle.lot.proofs.line.put_name.Reads as put-name-reads
-use Rattle.lot.proofs.line.put_undone.Reads as put-undone-reads
-use Rattle.lot.proofs.told.Reads as told-reads
 
 put-name-requires : tie.Need-put-name-requires
 put-name-requires c κs = search needs

@@ -1,17 +1,9 @@
-use Prim.Native.Nat.{ℕ, suc, _+_, _*_, _-_, _≤_, _<_, _/_, _%_}
-use mathlib.Core.Path.{_≡_, refl, ap, sym, _∙_}
-use mathlib.Core.List.{List, [], _∷_, _++_}
-use native.Mathlib.Omega.{arith}
-use native.Mathlib.Numerals.{add-one}
-use lib.ListN.{length, take, drop, set, getD, length-set, length-take, length-drop, length-append}
-use denote.Ref.{now}
+use mathlib.Core.Path.{ap, sym}
 use borrow.Author.Needs.{needs}
 use Rattle.model.specs.declared.Open.{Open}
 use Rattle.reasons.specs.Reasons.{openStop}
 use Rattle.reasons.proofs.end_stop.Statement.{statement}
 use Rattle.reasons.proofs.end_stop.Tie as tie
-use Rattle.reasons.proofs.end_stop.Reads as reads
-use Rattle.reasons.proofs.end_stop.Lts as lts
 
 enum-told : tie.Need-enum-told
 enum-told c = search needs

@@ -1,9 +1,7 @@
-use Prim.Native.Nat.{ℕ, suc, _+_, _*_, _-_, _≤_, _<_, _/_, _%_}
+use Prim.Native.Nat.{_-_, _≤_}
 use mathlib.Core.Path.{_≡_, refl, ap, sym, _∙_}
-use mathlib.Core.List.{List, [], _∷_, _++_}
 use native.Mathlib.Omega.{arith}
-use native.Mathlib.Numerals.{add-one}
-use lib.ListN.{length, take, drop, set, getD, length-set, length-take, length-drop, length-append}
+use lib.ListN.{length, drop, length-drop}
 use denote.Ref.{now}
 use borrow.Author.Needs.{needs}
 use Rattle.model.specs.Loads.{State}
@@ -19,13 +17,6 @@ use Rattle.records.specs.Steps.{Walking}
 use Rattle.reasons.specs.Reasons.{whyFrom}
 use Rattle.reasons.proofs.why_behind.Statement.{statement}
 use Rattle.reasons.proofs.why_behind.Tie as tie
-use Rattle.reasons.proofs.why_behind.Reads as reads
-use Rattle.reasons.proofs.why_behind.Lts as lts
-use Rattle.fresh.proofs.fresh_loading.Reads as fresh-loading-reads
-use Rattle.reasons.proofs.at_end.Reads as at-end-reads
-use Rattle.rules.proofs.grouping_at.Reads as grouping-at-reads
-use Rattle.steps.proofs.with_taken.Reads as with-taken-reads
-use Rattle.stops.proofs.stop_at.Reads as stop-at-reads
 
 abbrev Inv-loop : tie.InvT-loop
 Inv-loop capacity d load₀ area₀ place₀ i₀ turns₀ load area place i turns =

@@ -1,20 +1,10 @@
-use Prim.Native.Nat.{ℕ, suc, _+_, _*_, _-_, _≤_, _<_, _/_, _%_}
-use mathlib.Core.Path.{_≡_, refl, ap, sym, _∙_}
-use mathlib.Core.List.{List, [], _∷_, _++_}
 use native.Mathlib.Omega.{arith}
-use native.Mathlib.Numerals.{add-one}
-use lib.ListN.{length, take, drop, set, getD, length-set, length-take, length-drop, length-append}
 use denote.Ref.{now}
 use borrow.Author.Needs.{needs}
 use Rattle.complete.proofs.Complete.{laid-behind}
 use Rattle.reasons.proofs.Walks.{why-behind-so}
 use Rattle.reasons.proofs.why_not.Statement.{statement}
 use Rattle.reasons.proofs.why_not.Tie as tie
-use Rattle.reasons.proofs.why_not.Reads as reads
-use Rattle.reasons.proofs.why_not.Lts as lts
-use Rattle.reasons.proofs.why_behind.Reads as why-behind-reads
-use Rattle.slices.proofs.lay.Reads as lay-reads
-use Rattle.slices.proofs.put_bytes.Reads as put-bytes-reads
 
 slice-aggregate-lay : tie.Need-slice-aggregate-lay
 slice-aggregate-lay c = search needs

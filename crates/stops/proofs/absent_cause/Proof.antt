@@ -1,16 +1,6 @@
-use Prim.Native.Nat.{ℕ, suc, _+_, _*_, _-_, _≤_, _<_, _/_, _%_}
-use mathlib.Core.Path.{_≡_, refl, ap, sym, _∙_}
-use mathlib.Core.List.{List, [], _∷_, _++_}
-use native.Mathlib.Omega.{arith}
-use native.Mathlib.Numerals.{add-one}
-use lib.ListN.{length, take, drop, set, getD, length-set, length-take, length-drop, length-append}
-use denote.Ref.{now}
 use borrow.Author.Needs.{needs}
 use Rattle.stops.proofs.absent_cause.Statement.{statement}
 use Rattle.stops.proofs.absent_cause.Tie as tie
-use Rattle.stops.proofs.absent_cause.Reads as reads
-use Rattle.stops.proofs.absent_cause.Lts as lts
-use Rattle.flaws.proofs.is_listed.Reads as is-listed-reads
 
 cast-is-listed : tie.Need-cast-is-listed
 cast-is-listed c = search needs

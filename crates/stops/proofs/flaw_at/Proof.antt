@@ -1,9 +1,7 @@
-use Prim.Native.Nat.{ℕ, suc, _+_, _*_, _-_, _≤_, _<_, _/_, _%_}
-use mathlib.Core.Path.{_≡_, refl, ap, sym, _∙_}
-use mathlib.Core.List.{List, [], _∷_, _++_}
+use Prim.Native.Nat.{ℕ, _+_, _-_}
+use mathlib.Core.Path.{_≡_, ap}
+use mathlib.Core.List.{List}
 use native.Mathlib.Omega.{arith}
-use native.Mathlib.Numerals.{add-one}
-use lib.ListN.{length, take, drop, set, getD, length-set, length-take, length-drop, length-append}
 use denote.Ref.{now}
 use borrow.Author.Needs.{needs}
 use Rattle.model.specs.Table.{descriptorOf}
@@ -14,11 +12,6 @@ use Rattle.stops.specs.Stops.{flawAt}
 use Rattle.stops.proofs.Stops.{part-laid}
 use Rattle.stops.proofs.flaw_at.Statement.{statement}
 use Rattle.stops.proofs.flaw_at.Tie as tie
-use Rattle.stops.proofs.flaw_at.Reads as reads
-use Rattle.stops.proofs.flaw_at.Lts as lts
-use Rattle.decoded.proofs.descriptor_of.Reads as descriptor-of-reads
-use Rattle.flaws.proofs.flaw_of.Reads as flaw-of-reads
-use Rattle.slices.proofs.lay.Reads as lay-reads
 
 add-if1 : tie.Need-add-if1
 add-if1 c = search needs

@@ -1,23 +1,9 @@
-use Prim.Native.Nat.{ℕ, suc, _+_, _*_, _-_, _≤_, _<_, _/_, _%_}
-use mathlib.Core.Path.{_≡_, refl, ap, sym, _∙_}
-use mathlib.Core.List.{List, [], _∷_, _++_}
-use native.Mathlib.Omega.{arith}
-use native.Mathlib.Numerals.{add-one}
-use lib.ListN.{length, take, drop, set, getD, length-set, length-take, length-drop, length-append}
-use denote.Ref.{now}
+use mathlib.Core.Path.{sym, _∙_}
 use borrow.Author.Needs.{needs}
 use borrow.Author.Tests.{eq-eqb, ne-eqb}
 use Rattle.stops.specs.Stops.{headStop}
 use Rattle.stops.proofs.head_stop.Statement.{statement}
 use Rattle.stops.proofs.head_stop.Tie as tie
-use Rattle.stops.proofs.head_stop.Reads as reads
-use Rattle.stops.proofs.head_stop.Lts as lts
-use Rattle.due.proofs.is_due.Reads as is-due-reads
-use Rattle.header.proofs.is_query.Reads as is-query-reads
-use Rattle.rows.proofs.row_of.Reads as row-of-reads
-use Rattle.stops.proofs.room_stop.Reads as room-stop-reads
-use Rattle.stops.proofs.stop_as.Reads as stop-as-reads
-use Rattle.stops.proofs.undue_cause.Reads as undue-cause-reads
 
 is-query-requires : tie.Need-is-query-requires
 is-query-requires c κs = search needs

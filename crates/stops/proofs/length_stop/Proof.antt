@@ -1,9 +1,5 @@
-use Prim.Native.Nat.{ℕ, suc, _+_, _*_, _-_, _≤_, _<_, _/_, _%_}
-use mathlib.Core.Path.{_≡_, refl, ap, sym, _∙_}
-use mathlib.Core.List.{List, [], _∷_, _++_}
-use native.Mathlib.Omega.{arith}
-use native.Mathlib.Numerals.{add-one}
-use lib.ListN.{length, take, drop, set, getD, length-set, length-take, length-drop, length-append}
+use Prim.Native.Nat.{_-_}
+use mathlib.Core.Path.{sym, _∙_}
 use denote.Ref.{now}
 use borrow.Author.Needs.{needs}
 use Rattle.model.specs.Loads.{fileList}
@@ -11,12 +7,6 @@ use Rattle.values.proofs.Sizes.{row-steps}
 use Rattle.stops.proofs.Stops.{value-spans, value-whole, value-short, value-wrong}
 use Rattle.stops.proofs.length_stop.Statement.{statement}
 use Rattle.stops.proofs.length_stop.Tie as tie
-use Rattle.stops.proofs.length_stop.Reads as reads
-use Rattle.stops.proofs.length_stop.Lts as lts
-use Rattle.rows.proofs.row_at.Reads as row-at-reads
-use Rattle.stops.proofs.stop_as.Reads as stop-as-reads
-use Rattle.stops.proofs.value_stop.Reads as value-stop-reads
-use Rattle.values.proofs.fits_row.Reads as fits-row-reads
 
 row-at-requires : tie.Need-row-at-requires
 row-at-requires c κs = search needs

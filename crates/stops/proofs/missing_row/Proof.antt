@@ -1,18 +1,11 @@
-use Prim.Native.Nat.{ℕ, suc, _+_, _*_, _-_, _≤_, _<_, _/_, _%_}
-use mathlib.Core.Path.{_≡_, refl, ap, sym, _∙_}
-use mathlib.Core.List.{List, [], _∷_, _++_}
+use Prim.Native.Nat.{_-_, _≤_}
+use mathlib.Core.Path.{_≡_, refl, sym, _∙_}
 use native.Mathlib.Omega.{arith}
-use native.Mathlib.Numerals.{add-one}
-use lib.ListN.{length, take, drop, set, getD, length-set, length-take, length-drop, length-append}
-use denote.Ref.{now}
 use borrow.Author.Needs.{needs}
 use Rattle.stops.specs.Stops.{missingRow}
 use Rattle.stops.proofs.Stops.{row-found, row-next, row-none}
 use Rattle.stops.proofs.missing_row.Statement.{statement}
 use Rattle.stops.proofs.missing_row.Tie as tie
-use Rattle.stops.proofs.missing_row.Reads as reads
-use Rattle.stops.proofs.missing_row.Lts as lts
-use Rattle.rows.proofs.missing_before.Reads as missing-before-reads
 
 abbrev Inv-loop : tie.InvT-loop
 Inv-loop rows n₀ n = (missingRow 11 rows 1 ≡ missingRow (12 - n) rows n) × (1 ≤ n) × (n ≤ 12)

@@ -1,19 +1,7 @@
-use Prim.Native.Nat.{ℕ, suc, _+_, _*_, _-_, _≤_, _<_, _/_, _%_}
-use mathlib.Core.Path.{_≡_, refl, ap, sym, _∙_}
-use mathlib.Core.List.{List, [], _∷_, _++_}
-use native.Mathlib.Omega.{arith}
-use native.Mathlib.Numerals.{add-one}
-use lib.ListN.{length, take, drop, set, getD, length-set, length-take, length-drop, length-append}
-use denote.Ref.{now}
+use mathlib.Core.Path.{sym, _∙_}
 use borrow.Author.Needs.{needs}
 use Rattle.stops.proofs.room_stop.Statement.{statement}
 use Rattle.stops.proofs.room_stop.Tie as tie
-use Rattle.stops.proofs.room_stop.Reads as reads
-use Rattle.stops.proofs.room_stop.Lts as lts
-use Rattle.rules.proofs.room_of.Reads as room-of-reads
-use Rattle.stops.proofs.absent_cause.Reads as absent-cause-reads
-use Rattle.stops.proofs.length_stop.Reads as length-stop-reads
-use Rattle.stops.proofs.stop_as.Reads as stop-as-reads
 
 room-of-requires : tie.Need-room-of-requires
 room-of-requires c κs = search needs

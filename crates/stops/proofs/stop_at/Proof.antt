@@ -1,20 +1,11 @@
-use Prim.Native.Nat.{ℕ, suc, _+_, _*_, _-_, _≤_, _<_, _/_, _%_}
-use mathlib.Core.Path.{_≡_, refl, ap, sym, _∙_}
-use mathlib.Core.List.{List, [], _∷_, _++_}
+use mathlib.Core.Path.{sym, _∙_}
 use native.Mathlib.Omega.{arith}
-use native.Mathlib.Numerals.{add-one}
-use lib.ListN.{length, take, drop, set, getD, length-set, length-take, length-drop, length-append}
 use denote.Ref.{now}
 use borrow.Author.Needs.{needs}
 use Rattle.records.proofs.Chains.{header-within}
 use Rattle.stops.specs.Stops.{stopOf}
 use Rattle.stops.proofs.stop_at.Statement.{statement}
 use Rattle.stops.proofs.stop_at.Tie as tie
-use Rattle.stops.proofs.stop_at.Reads as reads
-use Rattle.stops.proofs.stop_at.Lts as lts
-use Rattle.header.proofs.header_at.Reads as header-at-reads
-use Rattle.stops.proofs.head_stop.Reads as head-stop-reads
-use Rattle.stops.proofs.torn_stop.Reads as torn-stop-reads
 
 header-at-requires : tie.Need-header-at-requires
 header-at-requires c κs = search needs

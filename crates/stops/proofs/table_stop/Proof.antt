@@ -1,9 +1,3 @@
-use Prim.Native.Nat.{ℕ, suc, _+_, _*_, _-_, _≤_, _<_, _/_, _%_}
-use mathlib.Core.Path.{_≡_, refl, ap, sym, _∙_}
-use mathlib.Core.List.{List, [], _∷_, _++_}
-use native.Mathlib.Omega.{arith}
-use native.Mathlib.Numerals.{add-one}
-use lib.ListN.{length, take, drop, set, getD, length-set, length-take, length-drop, length-append}
 use denote.Ref.{now}
 use borrow.Author.Needs.{needs}
 use Rattle.model.specs.Loads.{fileList}
@@ -11,9 +5,6 @@ use Rattle.stops.proofs.Stops.{table-so}
 use Rattle.stops.specs.Stops.{tableStop}
 use Rattle.stops.proofs.table_stop.Statement.{statement}
 use Rattle.stops.proofs.table_stop.Tie as tie
-use Rattle.stops.proofs.table_stop.Reads as reads
-use Rattle.stops.proofs.table_stop.Lts as lts
-use Rattle.stops.proofs.flaw_at.Reads as flaw-at-reads
 
 mul-start : tie.Need-mul-start
 mul-start c = search needs

@@ -1,18 +1,10 @@
-use Prim.Native.Nat.{ℕ, suc, _+_, _*_, _-_, _≤_, _<_, _/_, _%_}
-use mathlib.Core.Path.{_≡_, refl, ap, sym, _∙_}
-use mathlib.Core.List.{List, [], _∷_, _++_}
+use mathlib.Core.Path.{_∙_}
 use native.Mathlib.Omega.{arith}
-use native.Mathlib.Numerals.{add-one}
-use lib.ListN.{length, take, drop, set, getD, length-set, length-take, length-drop, length-append}
 use denote.Ref.{now}
 use borrow.Author.Needs.{needs}
 use Rattle.stops.proofs.Stops.{no-tag, no-length, all-there, tag-at}
-use borrow.Author.Tests.{lt-ltb, le-ltb}
 use Rattle.stops.proofs.torn_stop.Statement.{statement}
 use Rattle.stops.proofs.torn_stop.Tie as tie
-use Rattle.stops.proofs.torn_stop.Reads as reads
-use Rattle.stops.proofs.torn_stop.Lts as lts
-use Rattle.bytes.proofs.word.Reads as word-reads
 
 sub-left : tie.Need-sub-left
 sub-left c = search needs

@@ -1,18 +1,8 @@
-use Prim.Native.Nat.{ℕ, suc, _+_, _*_, _-_, _≤_, _<_, _/_, _%_}
-use mathlib.Core.Path.{_≡_, refl, ap, sym, _∙_}
-use mathlib.Core.List.{List, [], _∷_, _++_}
-use native.Mathlib.Omega.{arith}
-use native.Mathlib.Numerals.{add-one}
-use lib.ListN.{length, take, drop, set, getD, length-set, length-take, length-drop, length-append}
-use denote.Ref.{now}
+use mathlib.Core.Path.{sym, _∙_}
 use borrow.Author.Needs.{needs}
 use borrow.Author.Tests.{eq-eqb, ne-eqb}
 use Rattle.stops.proofs.undue_cause.Statement.{statement}
 use Rattle.stops.proofs.undue_cause.Tie as tie
-use Rattle.stops.proofs.undue_cause.Reads as reads
-use Rattle.stops.proofs.undue_cause.Lts as lts
-use Rattle.rows.proofs.missing_before.Reads as missing-before-reads
-use Rattle.stops.proofs.missing_row.Reads as missing-row-reads
 
 sub-missing-before : tie.Need-sub-missing-before
 sub-missing-before c = search needs

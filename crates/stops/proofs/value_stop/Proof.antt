@@ -1,19 +1,8 @@
-use Prim.Native.Nat.{ℕ, suc, _+_, _*_, _-_, _≤_, _<_, _/_, _%_}
-use mathlib.Core.Path.{_≡_, refl, ap, sym, _∙_}
-use mathlib.Core.List.{List, [], _∷_, _++_}
-use native.Mathlib.Omega.{arith}
-use native.Mathlib.Numerals.{add-one}
-use lib.ListN.{length, take, drop, set, getD, length-set, length-take, length-drop, length-append}
-use denote.Ref.{now}
 use borrow.Author.Needs.{needs}
 use borrow.Author.Tests.{eq-eqb, ne-eqb}
 use Rattle.stops.specs.Stops.{valueStop}
 use Rattle.stops.proofs.value_stop.Statement.{statement}
 use Rattle.stops.proofs.value_stop.Tie as tie
-use Rattle.stops.proofs.value_stop.Reads as reads
-use Rattle.stops.proofs.value_stop.Lts as lts
-use Rattle.stops.proofs.stop_as.Reads as stop-as-reads
-use Rattle.stops.proofs.table_stop.Reads as table-stop-reads
 
 table-stop-requires : tie.Need-table-stop-requires
 table-stop-requires c κs = search needs

@@ -1,16 +1,10 @@
-use Prim.Native.Nat.{ℕ, suc, _+_, _*_, _-_, _≤_, _<_, _/_, _%_}
-use mathlib.Core.Path.{_≡_, refl, ap, sym, _∙_}
-use mathlib.Core.List.{List, [], _∷_, _++_}
+use Prim.Native.Nat.{_-_, _≤_}
+use mathlib.Core.Path.{_≡_}
 use native.Mathlib.Omega.{arith}
-use native.Mathlib.Numerals.{add-one}
-use lib.ListN.{length, take, drop, set, getD, length-set, length-take, length-drop, length-append}
-use denote.Ref.{now}
+use lib.ListN.{length, length-set}
 use borrow.Author.Needs.{needs}
 use Rattle.lot.proofs.line.clean.Statement.{statement}
 use Rattle.lot.proofs.line.clean.Tie as tie
-use Rattle.lot.proofs.line.clean.Reads as reads
-use Rattle.lot.proofs.line.clean.Lts as lts
-use Rattle.lot.proofs.line.shown.Reads as shown-reads
 
 abbrev Inv-loop : tie.InvT-loop
 Inv-loop text₀ i₀ text i = (i ≤ length text) × (length text ≡ length text₀)

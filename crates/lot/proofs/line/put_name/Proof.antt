@@ -1,18 +1,12 @@
-use Prim.Native.Nat.{ℕ, suc, _+_, _*_, _-_, _≤_, _<_, _/_, _%_}
-use mathlib.Core.Path.{_≡_, refl, ap, sym, _∙_}
-use mathlib.Core.List.{List, [], _∷_, _++_}
+use Prim.Native.Nat.{_≤_}
+use mathlib.Core.Path.{sym}
+use mathlib.Core.List.{_++_}
 use native.Mathlib.Omega.{arith}
-use native.Mathlib.Numerals.{add-one}
-use lib.ListN.{length, take, drop, set, getD, length-set, length-take, length-drop, length-append}
-use denote.Ref.{now}
+use lib.ListN.{length, drop, length-append}
 use borrow.Author.Needs.{needs}
 use lib.Seq.{length-take-le}
 use Rattle.lot.proofs.line.put_name.Statement.{statement}
 use Rattle.lot.proofs.line.put_name.Tie as tie
-use Rattle.lot.proofs.line.put_name.Reads as reads
-use Rattle.lot.proofs.line.put_name.Lts as lts
-use Rattle.edge.proofs.put_text.Reads as put-text-reads
-use Rattle.lot.proofs.line.clean.Reads as clean-reads
 
 put-text-requires : tie.Need-put-text-requires
 put-text-requires c κs = search needs

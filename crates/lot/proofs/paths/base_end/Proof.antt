@@ -1,16 +1,8 @@
-use Prim.Native.Nat.{ℕ, suc, _+_, _*_, _-_, _≤_, _<_, _/_, _%_}
-use mathlib.Core.Path.{_≡_, refl, ap, sym, _∙_}
-use mathlib.Core.List.{List, [], _∷_, _++_}
-use native.Mathlib.Omega.{arith}
-use native.Mathlib.Numerals.{add-one}
-use lib.ListN.{length, take, drop, set, getD, length-set, length-take, length-drop, length-append}
-use denote.Ref.{now}
+use Prim.Native.Nat.{_-_, _≤_}
+use lib.ListN.{length}
 use borrow.Author.Needs.{needs}
 use Rattle.lot.proofs.paths.base_end.Statement.{statement}
 use Rattle.lot.proofs.paths.base_end.Tie as tie
-use Rattle.lot.proofs.paths.base_end.Reads as reads
-use Rattle.lot.proofs.paths.base_end.Lts as lts
-use Rattle.lot.proofs.paths.at_dot.Reads as at-dot-reads
 
 abbrev Inv-loop : tie.InvT-loop
 Inv-loop name start end₀ i₀ end i = (start ≤ i) × (i ≤ length name) × (start ≤ end) × (end ≤ length name)
