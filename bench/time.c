@@ -1,6 +1,6 @@
 /* time.c: runs two programs on the same inputs, in turn, and compares what they write.
  *   time ROUNDS MODE LIST EMPTY WORK OURS SECOND [RUNNER WORD..]
- * LIST has a path a line. Each program is run as RUNNER.. PROGRAM MODE, its input from the path, its output to a file in
+ * LIST has a path a line. They are run as RUNNER.. OURS and RUNNER.. SECOND MODE, input from the path, output to a file in
  * WORK; who goes first changes from run to run. Beside each run the same program is run on EMPTY, since the start of a
  * process costs more than a short input, and not the same from one second to the next. A line a round, for ours and then
  * for the second: wall seconds, processor seconds (user and system), both of the empty runs, and the peak memory of one
@@ -128,8 +128,8 @@ int main(int argc, char **argv)
         words[0][i] = words[1][i] = argv[8 + i];
     words[0][i] = argv[6];
     words[1][i] = argv[7];
-    words[0][i + 1] = words[1][i + 1] = argv[2];
-    words[0][i + 2] = words[1][i + 2] = NULL;
+    words[0][i + 1] = words[1][i + 2] = NULL;
+    words[1][i + 1] = argv[2];
     for (round = 0; round < rounds; round++) {
         struct cost real[2] = { { 0, 0, 0 }, { 0, 0, 0 } }, empty[2] = { { 0, 0, 0 }, { 0, 0, 0 } };
         FILE *list = fopen(argv[3], "r");
