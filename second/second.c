@@ -14,6 +14,8 @@
  *  - replay and trace of a refused chip record end with status 0: the line printed is the result.
  *  - groupings streams: one pull never needs more than 65,539 bytes, so that many are kept ready.
  *  - trace's "held bytes" are those of an open '3100'; '-' for an open 'ssnn'.
+ *  - replay --sum: when the whole register is out, one line on standard error, "AREA " and the file area's place sum
+ *    in ten decimal digits; 0 for a refused chip record. No word but that one is taken behind a mode.
  */
 #include "second.h"
 
@@ -1183,7 +1185,26 @@ static u64 replay_records(struct card *c)
     return events;
 }
 
-static int replay(void)
+/* The sum over i of (i + 1) x byte i; at most 2,139,617,280. */
+static u32 place_sum(void)
+{
+    u32 i, sum = 0;
+    for (i = 0; i < AREA; i++)
+        sum += (i + 1) * area[i];
+    return sum;
+}
+
+/* AREA, place sum */
+static void say_sum(void)
+{
+    u8 line[SUM_LINE];
+    memcpy(line, "AREA ", 5);
+    decimal(line + 5, 10, place_sum());
+    line[SUM_LINE - 1] = '\n';
+    write_all(2, line, SUM_LINE);
+}
+
+static int replay(flag sum)
 {
     struct card c;
     u8 chip[CHIP];
@@ -1192,16 +1213,9 @@ static int replay(void)
     if (fresh(&c, chip, length) == 0)
         events = replay_records(&c);
     replay_end(output_room(LAST_LINE), events);
+    if (flush() && sum)
+        say_sum();
     return finish();
-}
-
-/* The sum over i of (i + 1) x byte i, modulo 2^32. */
-static u32 place_sum(void)
-{
-    u32 i, sum = 0;
-    for (i = 0; i < AREA; i++)
-        sum += (i + 1) * area[i];
-    return sum;
 }
 
 static void trace_open(const struct card *c)
@@ -1380,11 +1394,13 @@ static flag same_text(const char *a, const char *b)
     return *a == *b;
 }
 
-/* The modes over standard input; -1 for any other. */
-int run_mode(const char *mode)
+/* The modes over standard input, with the word behind the mode, or none; -1 for any other. */
+int run_mode(const char *mode, const char *word)
 {
-    if (same_text(mode, "replay"))
-        return replay();
+    if (same_text(mode, "replay") && (!word || same_text(word, "--sum")))
+        return replay(word != 0);
+    if (word)
+        return -1;
     if (same_text(mode, "trace"))
         return trace();
     if (same_text(mode, "cut"))
@@ -1432,7 +1448,7 @@ static int file_mode(const char *mode, int argc, char **argv)
 int main(int argc, char **argv)
 {
     const char *mode = argc > 1 ? argv[1] : "";
-    int status = run_mode(mode);
+    int status = argc > 3 ? -1 : run_mode(mode, argc > 2 ? argv[2] : 0);
     if (status >= 0)
         return status;
 #ifndef FREESTANDING
@@ -1445,7 +1461,7 @@ int main(int argc, char **argv)
     if (same_text(mode, "selftest"))
         return selftest();
 #endif
-    say("usage: second replay | trace | cut | groupings | lot [-0] [--resume] [--part K/N] OUT |\n"
+    say("usage: second replay [--sum] | trace | cut | groupings | lot [-0] [--resume] [--part K/N] OUT |\n"
         "       generate SEED COUNT [DIR] | big SEED EVENTS | lotjobs SEED COUNT FOLDER |\n"
         "       realjobs SEED COUNT FOLDER [text] | selftest\n");
     return 2;

@@ -20,6 +20,7 @@ enum {
     SESSION = 66,       /* more records than a job can fill: a closed command holds at least 187 bytes */
     LINE = 26,          /* replay's line for an event, */
     LAST_LINE = 10,     /* and its last */
+    SUM_LINE = 16,      /* the line of replay --sum */
     TABLE = 31,         /* descriptors at most */
     DESCRIPTOR = 18,    /* bytes of one */
     SECRET = 64,        /* bytes of a secret at most */
@@ -195,7 +196,7 @@ void begin_text(struct text *t);
 flag read_text(struct text *t, const u8 *bytes, u32 n, u8 *job);
 flag end_text(struct text *t);
 
-int run_mode(const char *mode);
+int run_mode(const char *mode, const char *word);
 int lot(int argc, char **argv);
 int lotjobs(int argc, char **argv);
 int realjobs(int argc, char **argv);

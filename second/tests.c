@@ -288,14 +288,14 @@ static void example_12(void)
 
 /* ---------------------------------------------------------------- the modes, as programs */
 
-struct mode_run { u8 bytes[200000]; u32 length; int status; };
+struct mode_run { u8 bytes[200000]; u32 length; int status; char said[1000]; };
 
-/* Runs a mode in a child process on these bytes. */
-static void run_child(const char *mode, const u8 *in, u32 length, struct mode_run *m)
+/* Runs a mode, with a word behind it or none, in a child process on these bytes. */
+static void run_child_with(const char *mode, const char *word, const u8 *in, u32 length, struct mode_run *m)
 {
-    FILE *from = tmpfile(), *to = tmpfile();
+    FILE *from = tmpfile(), *to = tmpfile(), *said = tmpfile();
     pid_t child;
-    if (from == NULL || to == NULL) {
+    if (from == NULL || to == NULL || said == NULL) {
         perror("tmpfile");
         exit(1);
     }
@@ -307,16 +307,23 @@ static void run_child(const char *mode, const u8 *in, u32 length, struct mode_ru
     if (child == 0) {
         dup2(fileno(from), 0);
         dup2(fileno(to), 1);
-        if (freopen("/dev/null", "w", stderr) == NULL)
-            _exit(99);
-        _exit(run_mode(mode));
+        dup2(fileno(said), 2);
+        _exit(run_mode(mode, word));
     }
     waitpid(child, &m->status, 0);
     m->status = WEXITSTATUS(m->status);
     rewind(to);
     m->length = (u32)fread(m->bytes, 1, sizeof m->bytes, to);
+    rewind(said);
+    m->said[fread(m->said, 1, sizeof m->said - 1, said)] = 0;
     fclose(from);
     fclose(to);
+    fclose(said);
+}
+
+static void run_child(const char *mode, const u8 *in, u32 length, struct mode_run *m)
+{
+    run_child_with(mode, NULL, in, length, m);
 }
 
 static flag wrote(const struct mode_run *m, const char *text)
@@ -371,6 +378,28 @@ static void replay_numbers(void)
     expect(memcmp(line, "99999 08 05 6A80 07 CC 00\n", 26) == 0, "replay: event 99999");
     replay_line(line, 10000000001ull, r, 0, 0x9000, &card);
     expect(memcmp(line, "00001 08 00 9000 07 CC 00\n", 26) == 0, "replay: the last five digits");
+}
+
+/* The order writes '1122' to bytes 0 and 1 of the area and '77' to byte 98: 1 x 17 + 2 x 34 + 99 x 119. */
+static void replay_sum(void)
+{
+    static struct mode_run m, n, cut;
+    static u8 job[CHIP + ORDER];
+    u32 length;
+    make_chip(job, 20);
+    length = CHIP + bytes_of(job + CHIP, ORDER_HEX);
+    run_child("cut", job, length, &cut);
+    run_child("replay", cut.bytes, cut.length, &m);
+    expect(strcmp(m.said, "") == 0, "replay: says nothing of the area");
+    run_child_with("replay", "--sum", cut.bytes, cut.length, &n);
+    expect(strcmp(n.said, "AREA 0000011866\n") == 0 && n.status == 0, "replay --sum: its line");
+    expect(n.length == m.length && memcmp(n.bytes, m.bytes, m.length) == 0, "replay --sum: the same register");
+    run_child_with("replay", "--sum", cut.bytes, CHIP, &n);
+    expect(strcmp(n.said, "AREA 0000000000\n") == 0 && wrote(&n, "END 00000\n"), "replay --sum: no events");
+    cut.bytes[39] = 1;
+    run_child_with("replay", "--sum", cut.bytes, cut.length, &n);
+    expect(strcmp(n.said, "AREA 0000000000\n") == 0 && wrote(&n, "END 00000\n"), "replay --sum: a refused chip record");
+    expect(run_mode("replay", "--su") < 0 && run_mode("trace", "--sum") < 0, "replay: no other word");
 }
 
 static void trace_sample(void)
@@ -1350,6 +1379,7 @@ int selftest(void)
     example_12();
     replay_sample();
     replay_numbers();
+    replay_sum();
     trace_sample();
     cut_and_groupings();
     groupings_long();

@@ -22,7 +22,7 @@ asks-traceability c tag n e = rw (ne-eqb tag 0x9484 n, eq-eqb tag 0x8185 e)
 abbrev pub states : ℕ → ℕ → List ℕ
 states gp internal = 0x9F ∷ 0x70 ∷ 0x01 ∷ gp ∷ 0x9F ∷ 0xDC ∷ 0x01 ∷ internal ∷ []
 
-pub asks-states : (c : Card) (tag : ℕ) → (tag ≡ 0x9484 → ⊥) → (tag ≡ 0x8185 → ⊥) → answerTo tag c ≡ states (c .life .gp) (c .loading .internal)
+pub asks-states : (c : Card) (tag : ℕ) → (tag ≡ 0x9484 → ⊥) → (tag ≡ 0x8185 → ⊥) → answerTo tag c ≡ states (c .life .gp) (c .loading .running .internal)
 unfolding answerTo
 asks-states c tag n m = rw (ne-eqb tag 0x9484 n, ne-eqb tag 0x8185 m)
 

@@ -32,7 +32,7 @@ pub fn lay_answer(answer: &mut [u8], c: Card, tag: u16) -> usize
         0x9F,
         0xDC,
         0x01,
-        c.loading.internal,
+        c.loading.running.internal,
     ];
     slices::put_bytes(answer, 0, &states);
     8

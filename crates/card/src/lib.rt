@@ -4,7 +4,7 @@ use model::Played;
 ghost use Prim.Native.Nat.{_<_};
 ghost use lib.ListN.{length};
 ghost use Rattle.model.specs.Session.{playOf};
-ghost use Rattle.brief.specs.Plays.{Plays};
+ghost use Rattle.events.specs.Plays.{Plays};
 
 const AREA_SIZE: usize = 4096;
 

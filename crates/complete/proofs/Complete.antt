@@ -1,11 +1,11 @@
 -- Completeness by the card's own walk, over '9484' and the order behind it.
 use Prim.Native.Nat.{ℕ, _+_, _-_, _≤_}
-use mathlib.Core.Path.{_≡_, refl, ap}
+use mathlib.Core.Path.{_≡_, refl, ap, _∙_}
 use mathlib.Core.Bool.{Bool, true, false}
 use mathlib.Core.List.{List, [], _∷_, _++_}
 use native.Mathlib.Omega.{arith}
 use lib.Seq.{take-at}
-use lib.ListN.{length, take, drop, length-replicate, length-append}
+use lib.ListN.{length, take, drop, length-replicate, length-append, length-drop}
 use Rattle.lists.specs.Bytes.{zeros}
 use Rattle.lists.specs.Over.{overwrite, over-then, over-zero}
 use Rattle.model.specs.declared.Loading.{Loading}
@@ -17,7 +17,10 @@ use Rattle.model.specs.Rules.{Result}
 use Rattle.model.specs.Sound.{secretsOk, soundWith}
 use Rattle.model.specs.Command.{walk, isShut, ready}
 use Rattle.model.specs.Order.{challengedState, finished, complete, orderLimit}
-use Rattle.soundness.specs.Keeps.{Onward}
+use Rattle.soundness.specs.Keeps.{Kept}
+use Rattle.soundness.proofs.Inside.{Steady, steady-of}
+use Rattle.walk.specs.Paces.{onward}
+use Rattle.walk.proofs.Paces.{shut-walk}
 use Rattle.steps.specs.Steps.{stateOf, activeLife}
 use Rattle.cutting.specs.Packs.{longestUnit, Sized, none, more}
 use Rattle.cutting.proofs.Commands.{units-sized}
@@ -25,23 +28,23 @@ use Rattle.cuts.specs.Cuts as cuts
 use Rattle.complete.specs.Writes.{passesBehind}
 
 -- a state where a mandatory row is missing is not ready; where none is, it is ready exactly if nothing is open
-pub missing-not : (l : Loading) (a : List ℕ) → mandatoryMissing (l .rows) ≡ true → false ≡ ready (stateOf l a)
+pub missing-not : (l : Loading) (a : List ℕ) → mandatoryMissing (l .running .rows) ≡ true → false ≡ ready (stateOf l a)
 unfolding ready
 missing-not l a e = rw e
 
-pub ready-so : (l : Loading) (a : List ℕ) (x : Bool) → mandatoryMissing (l .rows) ≡ false → x ≡ isShut (l .pending) → x ≡ ready (stateOf l a)
+pub ready-so : (l : Loading) (a : List ℕ) (x : Bool) → mandatoryMissing (l .running .rows) ≡ false → x ≡ isShut (l .running .pending) → x ≡ ready (stateOf l a)
 unfolding ready
 ready-so l a x e f = rw e f
 
 -- the card's walk may begin where the definition's does
-pub sound-start : soundWith activeLife (challengedState .load) ≡ true
+sound-start : soundWith activeLife (challengedState .load) ≡ true
 unfolding soundWith secretsOk tablePasses taken withRow
 sound-start = refl
 
-pub walking-start : (left : List ℕ) (fresh load : Loading) → fresh ≡ freshLoading → load ≡ withTaken 1 fresh
-    → Onward activeLife areaSize left (stateOf load (zeros areaSize))
-walking-start left fresh load e f =
-    rw (f, e) (record { kept = record { sound = sound-start; files = refl; area = length-replicate {A = ℕ} areaSize 0 }; shut = λ h. refl })
+pub steady-start : (load : Loading) → load ≡ challengedState .load → Steady areaSize (stateOf load (zeros areaSize))
+steady-start load e =
+    rw e (steady-of activeLife areaSize challengedState refl
+    (record { sound = sound-start; files = refl; area = length-replicate {A = ℕ} areaSize 0 }))
 
 -- '9484', empty
 abbrev pub front : List ℕ
@@ -72,10 +75,12 @@ complete-behind capacity order = go (length (front ++ order)) (length-append fro
     go n e = let f : n - 3 ≡ length order = omega arith in rw (f, e)
 
 -- what the card's walk came to, from that start
-pub walked-so : (capacity : ℕ) (d : List ℕ) (fresh load : Loading) (r : Result ℕ) → fresh ≡ freshLoading → load ≡ withTaken 1 fresh
-    → r ≡ walk (length d - 3) capacity (length d) 0x00 (drop 3 d) (stateOf load (zeros areaSize)) → finished r ≡ passesBehind capacity d
+pub walked-so : (capacity : ℕ) (d : List ℕ) (load : Loading) (r : Result ℕ) → load ≡ challengedState .load
+    → r ≡ onward capacity (length d) 0x00 3 (drop 3 d) (stateOf load (zeros areaSize)) .result → finished r ≡ passesBehind capacity d
 unfolding passesBehind
-walked-so capacity d fresh load r e f g = rw (g, f, e)
+walked-so capacity d load r e f =
+    rw (f, e) (ap finished (shut-walk capacity (length d) 0x00 3 (drop 3 d) challengedState refl
+    ∙ ap (λ (n : ℕ). walk n capacity (length d) 0x00 (drop 3 d) challengedState) (length-drop 3 d)))
 
 -- each unit of a complete order fits in a command
 sized-fit : {us : List (List ℕ)} → Sized 1 longestUnit us → cuts.Fitting us

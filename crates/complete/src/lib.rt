@@ -1,13 +1,13 @@
 // Whether an order is complete for a chip: the card's own walk says so.
+use load::End;
 use model::Loading;
 use model::Open;
-use steps::Course;
 ghost use mathlib.Core.Path.{_≡_};
 ghost use mathlib.Core.List.{List};
 ghost use Prim.Native.Nat.{ℕ, _≤_};
 ghost use lib.ListN.{length};
 ghost use Rattle.model.specs.Command.{isShut, ready};
-ghost use Rattle.model.specs.Order.{orderLimit, complete};
+ghost use Rattle.model.specs.Order.{orderLimit, complete, challengedState};
 ghost use Rattle.steps.specs.Steps.{stateOf};
 ghost use Rattle.complete.specs.Writes.{passesBehind};
 
@@ -37,11 +37,22 @@ fn is_shut(o: Open) -> bool
 pub fn is_ready(l: Loading) -> bool
     ensures { λ r. ⌜ ((a : List ℕ) → r ≡ ready (stateOf l a)) ⌝ }
 {
-    if rows::mandatory_missing(l.rows) {
+    if rows::mandatory_missing(l.running.rows) {
         return false;
     }
-    let pending = l.pending;
+    let running = l.running;
+    let pending = running.pending;
     is_shut(pending)
+}
+
+// A fresh card's loading part, once it has given its challenge.
+pub fn challenged() -> Loading
+    ensures { λ r. ⌜ r ≡ challengedState .load ⌝ }
+{
+    let mut load = fresh::fresh_loading();
+    let running = steps::with_taken(load.running, CHALLENGE_ROW);
+    load.running = running;
+    load
 }
 
 // The groupings of a command behind '9484' pass on a fresh card of this capacity that has given its challenge, and
@@ -50,14 +61,14 @@ fn passes_behind(capacity: u8, d: &[u8]) -> bool
     requires { ⌜ 3 ≤ length (now d) ⌝ }
     ensures { λ r. ⌜ r ≡ passesBehind capacity (now (d .entry)) ⌝ }
 {
-    let load = steps::with_taken(fresh::fresh_loading(), CHALLENGE_ROW);
+    let load = challenged();
     let mut area = [0u8; 4096];
-    let s = walk::walked(load, &mut area, capacity, 0x00, d, FRONT_SIZE);
-    let course = s.course;
-    match course {
-        Course::Went(_) => is_ready(s.load),
-        Course::Asked(_) => false,
-        Course::Failed(_) => false,
+    let s = load::walked(load, &mut area, capacity, 0x00, d, FRONT_SIZE);
+    let end = s.end;
+    match end {
+        End::Done => is_ready(s.load),
+        End::Asked(_) => false,
+        End::Failed(_) => false,
     }
 }
 

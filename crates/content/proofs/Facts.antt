@@ -14,8 +14,13 @@ use Rattle.model.specs.declared.Loading.{Loading}
 use Rattle.model.specs.declared.Secret.{Secret}
 use Rattle.model.specs.Loads.{withTaken, withSerial, withStartup, withCounter, withSecret, changed}
 use Rattle.model.specs.Rules.{Result, went, failed, does, startupOk, startup, counterOf, kept, whole}
-use Rattle.steps.specs.Steps.{stateOf}
-use Rattle.content.specs.Kept.{wordOf, startupOf, keptOf}
+use Rattle.model.specs.declared.Running.{Running}
+use Rattle.model.specs.Loads.{withRunning, runningTaken}
+use Rattle.steps.specs.declared.Step.{Step}
+use Rattle.steps.specs.declared.Course.the-variants.{Keeps, Failed}
+use Rattle.steps.specs.Stages.{Sized}
+use Rattle.steps.specs.Steps.{stateOf, on, startupOf, keptOf, Judges}
+use Rattle.content.specs.Kept.{wordOf}
 
 -- startup information in an array: its first byte stays, or is the capacity
 pub first-stays : (c : ℕ) (v : List ℕ) → length v ≡ 7 → byteAt v 0 ≤ c → padded 7 v ≡ startupOf c v
@@ -73,23 +78,51 @@ module _ (capacity row : ℕ) (v : List ℕ) (l : Loading) (a : List ℕ) where
       go true e = let q : row ≡ 3 = eqb→eq row 3 (rw e tt) in rw q (three (startupOk v) (ltb capacity 6))
       go false e = rw e (others (eqb row 2) (eqb row 4))
 
+-- a row that is taken is no part of what is kept
+kept-taken : (capacity row : ℕ) (v : List ℕ) (p : Running) (l : Loading)
+    → keptOf capacity row v (withRunning (runningTaken row p) l) ≡ withTaken row (keptOf capacity row v (withRunning p l))
+kept-taken capacity row v p l = go (eqb row 2) (eqb row 3) (eqb row 4)
+  where
+    k : Loading
+    k = withRunning (runningTaken row p) l
+
+    o : Loading
+    o = withRunning p l
+
+    x : Secret
+    x = record { bytes = padded 64 v; len = length v }
+
+    go : (b c d : Bool)
+        → cond b (withSerial v k) (cond c (withStartup (startupOf capacity v) k) (cond d (withCounter (counterOf v) k) (withSecret (row - 6) x k)))
+        ≡ withTaken row (cond b (withSerial v o) (cond c (withStartup (startupOf capacity v) o) (cond d (withCounter (counterOf v) o) (withSecret (row - 6) x o))))
+    go true c d = refl
+    go false true d = refl
+    go false false true = refl
+    go false false false = refl
+
 -- what a grouping comes to by the word of its content
-module _ (capacity row at : ℕ) (h : Head) (d a : List ℕ) (l : Loading) (w : ℕ)
+module _ (capacity row at : ℕ) (h : Head) (d a : List ℕ) (p : Running) (l : Loading) (w : ℕ)
     (e : w ≡ wordOf capacity row (part d at (at + h .len - at))) where
   abbrev next : Loading
-  next = keptOf capacity row (part d at (at + h .len - at)) l
+  next = keptOf capacity row (part d at (at + h .len - at)) (withRunning p l)
 
-  told-as : kept capacity row (part d at (h .len)) (stateOf l a) ≡ told w l next a
+  told-as : kept capacity row (part d at (h .len)) (on p l a) ≡ told w (withRunning p l) next a
   told-as =
-      ap (λ (v : List ℕ). kept capacity row v (stateOf l a)) (sym (value-bytes d at (h .len)))
-      ∙ kept-told capacity row (part d at (at + h .len - at)) l a
-      ∙ ap (λ (z : ℕ). told z l next a) (sym e)
+      ap (λ (v : List ℕ). kept capacity row v (on p l a)) (sym (value-bytes d at (h .len)))
+      ∙ kept-told capacity row (part d at (at + h .len - at)) (withRunning p l) a
+      ∙ ap (λ (z : ℕ). told z (withRunning p l) next a) (sym e)
 
-  pub whole-passes : w ≡ 0x9000
-      → went (drop (at + h .len) d) (stateOf (withTaken row next) a) ≡ whole capacity row h (drop at d) (stateOf l a)
+  pub whole-passes : (place : ℕ) → place < at → at + h .len ≤ length d → Sized row (h .len) → w ≡ 0x9000
+      → Judges capacity (record { course = Keeps row at (at + h .len); running = runningTaken row p }) d place l a (whole capacity row h (drop at d) (on p l a))
   unfolding whole
-  whole-passes f = rw (told-as, eq-eqb w 0x9000 f, drop-drop (h .len) at d)
+  whole-passes place i j z f =
+      let n : at + h .len - at ≡ h .len = omega arith in
+      record {
+        comes = rw (kept-taken capacity row (part d at (at + h .len - at)) p l, told-as, eq-eqb w 0x9000 f, drop-drop (h .len) at d);
+        ahead = (omega arith, omega arith, j, rw n z);
+      }
 
-  pub whole-refused : (w ≡ 0x9000 → ⊥) → failed w (stateOf l a) ≡ whole capacity row h (drop at d) (stateOf l a)
+  pub whole-refused : (place : ℕ) → (w ≡ 0x9000 → ⊥)
+      → Judges capacity (record { course = Failed w; running = p }) d place l a (whole capacity row h (drop at d) (on p l a))
   unfolding whole
-  whole-refused f = rw (told-as, ne-eqb w 0x9000 f)
+  whole-refused place f = record { comes = rw (told-as, ne-eqb w 0x9000 f); ahead = tt }

@@ -1,6 +1,7 @@
-// Rule h of a grouping that stays whole: its content judged and kept.
+// Rule h of a grouping that stays whole: its content judged; and kept, once it passed.
 use model::Head;
 use model::Loading;
+use model::Running;
 use model::Secret;
 use steps::Course;
 use steps::Step;
@@ -10,9 +11,9 @@ ghost use Prim.Native.Nat.{ℕ, _+_, _-_, _*_, _≤_, _<_};
 ghost use lib.ListN.{length, drop};
 ghost use Rattle.lists.specs.Bytes.{padded};
 ghost use Rattle.model.specs.Rules.{counterOf, whole};
-ghost use Rattle.steps.specs.Steps.{stateOf, stepped};
-ghost use Rattle.records.specs.Steps.{Sized};
-ghost use Rattle.content.specs.Kept.{wordOf, startupOf, keptOf};
+ghost use Rattle.steps.specs.Stages.{Sized};
+ghost use Rattle.steps.specs.Steps.{on, startupOf, keptOf, Judges};
+ghost use Rattle.content.specs.Kept.{wordOf};
 
 const FIRST_SECRET_ROW: usize = 6;
 
@@ -100,7 +101,7 @@ fn secret_place(row: usize) -> usize
 }
 
 // A passed grouping is kept: serial, startup, counter, or the secret's bytes with their length.
-fn kept_as(mut l: Loading, capacity: u8, row: usize, v: &[u8]) -> Loading
+pub fn kept_as(mut l: Loading, capacity: u8, row: usize, v: &[u8]) -> Loading
     requires { ⌜ Sized row (length (now v)) ⌝ }
     ensures { λ r. ⌜ r ≡ keptOf capacity row (now (v .entry)) l ⌝ }
 {
@@ -127,21 +128,22 @@ fn kept_as(mut l: Loading, capacity: u8, row: usize, v: &[u8]) -> Loading
 }
 
 // Rule h of a grouping that stays whole; its value begins at `at`.
-pub fn whole_at(mut l: Loading, capacity: u8, row: usize, h: Head, d: &[u8], at: usize) -> Step
+pub fn whole_at(p: Running, capacity: u8, row: usize, h: Head, d: &[u8], at: usize) -> Step
     requires { ⌜ Sized row (h .len) × (1 ≤ row) × (at + h .len ≤ length (now d)) ⌝ }
-    ensures { λ r. ⌜ ((a : List ℕ) → stepped r (now (d .entry)) a ≡ whole capacity row h (drop at (now (d .entry))) (stateOf l a)) ⌝ }
+    ensures { λ r. ⌜ ((place : ℕ) (l : Loading) (a : List ℕ) → place < at → Judges capacity r (now (d .entry)) place l a (whole capacity row h (drop at (now (d .entry))) (on p l a))) ⌝ }
 {
     let len = h.len;
     let end = at + len;
-    let v = &d[at..end];
-    let w = judged(capacity, row, v);
+    let w = judged(capacity, row, &d[at..end]);
     if w != FINE {
-        return steps::failed_by(w, l);
+        return steps::failed_by(w, p);
     }
-    l = kept_as(l, capacity, row, v);
-    l = steps::with_taken(l, row);
     Step {
-        course: Course::Went(end),
-        load: l,
+        course: Course::Keeps {
+            row: row,
+            start: at,
+            end: end,
+        },
+        running: steps::with_taken(p, row),
     }
 }

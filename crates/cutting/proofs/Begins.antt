@@ -23,7 +23,7 @@ use Rattle.cutting.proofs.Bridge.{passes-true}
 -- the three things that a whole header comes to: an error; an open value; a value that is awaited, of at most 64 bytes
 pub data Begins (capacity : ℕ) (h : Head) : Result Part → Type 0 where
   fails : (w : ℕ) (s : State) → Begins capacity h (failed w s)
-  opens : (s : State) → spannable (h .tag) ≡ true → Misses (s .load .pending) (h .len) → Begins capacity h (went between s)
+  opens : (s : State) → spannable (h .tag) ≡ true → Misses (s .load .running .pending) (h .len) → Begins capacity h (went between s)
   awaits : (row : ℕ) (s : State) → spannable (h .tag) ≡ false → h .len ≤ 64 → Closed s → Begins capacity h (awaited capacity row (h .len) s)
 
 -- what every entry of a list has, each has that is got from it
@@ -83,7 +83,7 @@ module _ (capacity : ℕ) (h : Head) where
   by-judged (Passes n) s f k = k n refl
   by-judged (Refuses w) s f k = fails w s
 
-  opened-left : (row room len : ℕ) (s : State) → lengthOk row room len ≡ true → Misses (opened row (h .tag) len s .load .pending) len
+  opened-left : (row room len : ℕ) (s : State) → lengthOk row room len ≡ true → Misses (opened row (h .tag) len s .load .running .pending) len
   unfolding opened recordDone
   opened-left row room zero s ok = shut
   opened-left row room (suc n) s ok = opened-misses row room (h .tag) n ok
@@ -114,15 +114,15 @@ module _ (capacity : ℕ) (h : Head) where
   from-d : (s : State) → Closed s → Begins capacity h (judgedHead capacity h s)
   unfolding ruleD dueRow
   from-d s c =
-      by-judged (dueRow (s .load .rows) (s .load .last) (h .tag)) s _
-      (λ row q. from-e row s (due-row (eqb (rowOf (h .tag)) 0) (due (s .load .rows) (s .load .last) (rowOf (h .tag)) (h .tag)) 0x6A88 0x6985 (rowOf (h .tag)) row q .0) c)
+      by-judged (dueRow (s .load .running .rows) (s .load .running .last) (h .tag)) s _
+      (λ row q. from-e row s (due-row (eqb (rowOf (h .tag)) 0) (due (s .load .running .rows) (s .load .running .last) (rowOf (h .tag)) (h .tag)) 0x6A88 0x6985 (rowOf (h .tag)) row q .0) c)
 
   -- a whole header
   pub begins-so : (s : State) → Closed s → Begins capacity h (begun capacity h s)
   unfolding begun behind ruleC
   begins-so s c =
       by-test (isQuery (h .tag)) 0x6A80 s s (ruleC >> judgedHead capacity h)
-      (λ q. by-test (eqb (s .load .internal) 0xA5) 0x6985 s (changed (withInternal 0x5A) s) (judgedHead capacity h) (λ g. from-d _ c))
+      (λ q. by-test (eqb (s .load .running .internal) 0xA5) 0x6985 s (changed (withInternal 0x5A) s) (judgedHead capacity h) (λ g. from-d _ c))
 
   -- a query behind data byte 0, or at it
   pub begun-query : (s : State) → isQuery (h .tag) ≡ true → begun capacity h s ≡ failed 0x6A80 s

@@ -153,12 +153,12 @@ module _ {B : Type 0} (capacity n p1 : ℕ) (k : Rule B) (K : List ℕ → Rule 
 
   from-d : (s : State) → Closed s → thence (judgedAll s) K ≡ thence (judgedHead capacity h s) K′
   unfolding ruleD
-  from-d s o = after-judged (dueRow (s .load .rows) (s .load .last) (h .tag)) s _ _ K K′ (λ row e. from-e row s o)
+  from-d s o = after-judged (dueRow (s .load .running .rows) (s .load .running .last) (h .tag)) s _ _ K K′ (λ row e. from-e row s o)
 
   -- c
   from-c : (s : State) → Closed s → thence ((ruleC >> judgedAll) s) K ≡ thence ((ruleC >> judgedHead capacity h) s) K′
   unfolding ruleC
-  from-c s o = after-test (eqb (s .load .internal) 0xA5) 0x6985 s (changed (withInternal 0x5A) s) judgedAll (judgedHead capacity h) K K′ (λ q. from-d _ o)
+  from-c s o = after-test (eqb (s .load .running .internal) 0xA5) 0x6985 s (changed (withInternal 0x5A) s) judgedAll (judgedHead capacity h) K K′ (λ q. from-d _ o)
 
   -- b
   rule-b : (x y : Bool) (s : State) → (x ≡ true → y ≡ false) → (r : Result ℕ)

@@ -32,7 +32,7 @@ use Rattle.cutting.proofs.Units.{Chain, done, link, units-chain}
 use Rattle.cutting.proofs.Packing.{length-records, few-commands}
 
 -- a command that passes asks nothing
-asks-not : (capacity b : ℕ) (bs : List ℕ) (s s₁ : State) → s .load .pending ≡ Shut → run capacity (b ∷ bs) between s ≡ went between s₁
+asks-not : (capacity b : ℕ) (bs : List ℕ) (s s₁ : State) → s .load .running .pending ≡ Shut → run capacity (b ∷ bs) between s ≡ went between s₁
     → (x : Header) → headerOf (b ∷ bs) ≡ x → headAsks x ≡ false
 asks-not capacity b bs s s₁ c e Torn q = refl
 asks-not capacity b bs s s₁ c e (Whole h) q = go (isQuery (h .tag)) refl
@@ -42,22 +42,22 @@ asks-not capacity b bs s s₁ c e (Whole h) q = go (isQuery (h .tag)) refl
     go false g = refl
 
 passes-unasked : (capacity : ℕ) (u : List ℕ) (s s₁ : State) → 1 ≤ length u → run capacity u between s ≡ went between s₁
-    → (o : Open) → s .load .pending ≡ o → asks o u ≡ false
+    → (o : Open) → s .load .running .pending ≡ o → asks o u ≡ false
 passes-unasked capacity [] s s₁ l e o c = absurd (omega arith)
 passes-unasked capacity (b ∷ bs) s s₁ l e Shut c = asks-not capacity b bs s s₁ c e (headerOf (b ∷ bs)) refl
 passes-unasked capacity (b ∷ bs) s s₁ l e (Table held missing) c = refl
 passes-unasked capacity (b ∷ bs) s s₁ l e (Record tag written missing) c = refl
 
 -- a command that takes the walk from between groupings to between groupings
-pub command-passes : (capacity p1 n : ℕ) (u : List ℕ) (s s₁ : State) → Misses (s .load .pending) n → 1 ≤ length u
+pub command-passes : (capacity p1 n : ℕ) (u : List ℕ) (s s₁ : State) → Misses (s .load .running .pending) n → 1 ≤ length u
     → run capacity u between s ≡ went between s₁ → command capacity p1 u s ≡ theEnd p1 s₁
 command-passes capacity p1 n u s s₁ m l e =
-    command-run capacity p1 n u s m (passes-unasked capacity u s s₁ l e (s .load .pending) refl)
+    command-run capacity p1 n u s m (passes-unasked capacity u s s₁ l e (s .load .running .pending) refl)
     ∙ ap (λ (r : Result Part). thence r (atEnd (theEnd p1))) e
 
 -- units packed into commands
 pack-chain : {capacity : ℕ} {s s′ : State} {us : List (List ℕ)} → Chain capacity longestUnit s us s′ → (cur : List ℕ) (s₀ : State) (n : ℕ)
-    → Misses (s₀ .load .pending) n → 1 ≤ length cur → length cur ≤ dataRoom → run capacity cur between s₀ ≡ went between s
+    → Misses (s₀ .load .running .pending) n → 1 ≤ length cur → length cur ≤ dataRoom → run capacity cur between s₀ ≡ went between s
     → Chain capacity dataRoom s₀ (packed cur us) s′
 unfolding packed
 pack-chain (done q) cur s₀ n m l h e = link n m l h e (done q)

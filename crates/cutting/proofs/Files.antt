@@ -68,7 +68,7 @@ fits-after capacity h rest s (suc k) f = f
 
 open-unready : (capacity : ℕ) (h : Head) (rest : List ℕ) (s : State) (k : ℕ) → ready (after capacity h rest s (suc k)) ≡ true → ⊥
 unfolding ready recordDone
-open-unready capacity h rest s k e = never (and-right (not (mandatoryMissing (s .load .rows))) false e)
+open-unready capacity h rest s k e = never (and-right (not (mandatoryMissing (s .load .running .rows))) false e)
 
 -- what a walk that ends ready has seen
 record Ended (s : State) (gs : List Grouped) : Type 0 where
@@ -99,8 +99,8 @@ module _ (fuel capacity n p1 : ℕ) (s′ : State) (is-ready : ready s′ ≡ tr
       still : {xs : List Grouped} → Seen s xs → s₁ .area ≡ s .area → Seen s₁ xs
       still (early z) a = early (a ∙ z)
       still (late t l f) a =
-          let u : s .load .rows < 1024 = early-row (s .load .rows) (p .h .tag) q (due-none (s .load .rows) (s .load .last) (rowOf (p .h .tag)) (p .h .tag) q (p .due-so)) in
-          let v : 1024 ≤ s .load .rows = taken-high (s .load .rows) t in
+          let u : s .load .running .rows < 1024 = early-row (s .load .running .rows) (p .h .tag) q (due-none (s .load .running .rows) (s .load .running .last) (rowOf (p .h .tag)) (p .h .tag) q (p .due-so)) in
+          let v : 1024 ≤ s .load .running .rows = taken-high (s .load .running .rows) t in
           absurd (omega arith)
 
   -- row 11: its value is whole, or the walk would end with it open

@@ -35,7 +35,7 @@ pub record Filled (files : List Descriptor) (gs : List Grouped) (area : List ℕ
 -- the 'ssnn' groupings that a walk has seen: none as long as row 11 is not taken; then their tags are at most the last one
 pub data Seen (s : State) : List Grouped → Type 0 where
   early : s .area ≡ zeros areaSize → Seen s []
-  late : {gs : List Grouped} → taken (s .load .rows) 11 ≡ true → Each (λ (g : Grouped). g .tag ≤ s .load .last) gs → Filled (fileList (s .load)) gs (s .area) → Seen s gs
+  late : {gs : List Grouped} → taken (s .load .running .rows) 11 ≡ true → Each (λ (g : Grouped). g .tag ≤ s .load .running .last) gs → Filled (fileList (s .load)) gs (s .area) → Seen s gs
 
 filled-none : (files : List Descriptor) (a : List ℕ) → a ≡ zeros areaSize → Filled files [] a
 unfolding laidAll
@@ -73,11 +73,11 @@ each-so f Each.none = Each.none
 each-so f (Each.more {x} p ps) = Each.more (f x p) (each-so f ps)
 
 -- the tags seen are below that of a row 11 that is due
-seen-under : {s : State} {gs : List Grouped} (tag : ℕ) → due (s .load .rows) (s .load .last) 11 tag ≡ true → Seen s gs → Each (λ (g : Grouped). g .tag < tag) gs
+seen-under : {s : State} {gs : List Grouped} (tag : ℕ) → due (s .load .running .rows) (s .load .running .last) 11 tag ≡ true → Seen s gs → Each (λ (g : Grouped). g .tag < tag) gs
 seen-under tag d (early e) = Each.none
 seen-under {s} tag d (late t l f) =
-    let k : s .load .last < tag = due-rising (s .load .rows) (s .load .last) tag d t in
-    each-so (λ (g : Grouped) (p : g .tag ≤ s .load .last). omega arith) l
+    let k : s .load .running .last < tag = due-rising (s .load .running .rows) (s .load .running .last) tag d t in
+    each-so (λ (g : Grouped) (p : g .tag ≤ s .load .running .last). omega arith) l
 
 -- rule e found the record
 spot-room : (x : Spot) (room : ℕ) → roomIn x ≡ Passes room → (base : ℕ) × (x ≡ At base room)
@@ -125,16 +125,16 @@ module _ (capacity : ℕ) (h : Head) (rest : List ℕ) (s : State) where
       leftOf (failed n t) = []
 
   -- a whole value has been seen
-  pub seen-more : {gs : List Grouped} (room : ℕ) → eqb (rowOf (h .tag)) 11 ≡ true → due (s .load .rows) (s .load .last) (rowOf (h .tag)) (h .tag) ≡ true
+  pub seen-more : {gs : List Grouped} (room : ℕ) → eqb (rowOf (h .tag)) 11 ≡ true → due (s .load .running .rows) (s .load .running .last) (rowOf (h .tag)) (h .tag) ≡ true
       → roomOf (fileList (s .load)) (rowOf (h .tag)) (h .tag) ≡ Passes room → lengthOk (rowOf (h .tag)) room (h .len) ≡ true
       → Seen s gs → Seen (after zero) (gs ++ (g ∷ []))
   unfolding recordDone
   seen-more {gs} room q d r o sn =
       let row : rowOf (h .tag) ≡ 11 = eqb-true (rowOf (h .tag)) 11 q in
       let at : (base : ℕ) × (tagSpot (fileList (s .load)) (h .tag) ≡ At base room) = room-spot (fileList (s .load)) (rowOf (h .tag)) (h .tag) room q r in
-      let u : Each (λ (x : Grouped). x .tag < h .tag) gs = seen-under (h .tag) (subst (λ (i : ℕ). due (s .load .rows) (s .load .last) i (h .tag) ≡ true) row d) sn in
+      let u : Each (λ (x : Grouped). x .tag < h .tag) gs = seen-under (h .tag) (subst (λ (i : ℕ). due (s .load .running .rows) (s .load .running .last) i (h .tag) ≡ true) row d) sn in
       let l : h .len ≤ room = length-most (rowOf (h .tag)) room (h .len) o in
       let n : length (take (h .len) rest) ≡ Prim.Native.Nat.min (h .len) (length rest) = length-take (h .len) rest in
       let fit : length (take (h .len) rest) ≤ room = omega arith in
-      late (row-taken (s .load .rows)) (each-last (each-so (λ (x : Grouped) (p : x .tag < h .tag). omega arith) u) (le-refl (h .tag)))
+      late (row-taken (s .load .running .rows)) (each-last (each-so (λ (x : Grouped) (p : x .tag < h .tag). omega arith) u) (le-refl (h .tag)))
       (filled-more (fileList (s .load)) gs g (s .area) (seen-filled sn) (record { base = at .0; size = room; spot = at .1; fits = fit }) u)

@@ -34,7 +34,7 @@ abbrev Begins : {B : Type 0} → Rule B → ℕ → State → List ℕ → Heade
 Begins k capacity s o Torn = thence (run capacity o between s) (atEnd k) ≡ failed 0x6A80 s
 Begins k capacity s o (Whole h) = run capacity o between s ≡ thence (begun capacity h s) (λ p. run capacity (drop (h .size) o) p)
 
-module _ {B : Type 0} (k : Rule B) (capacity : ℕ) (s : State) (e : s .load .pending ≡ Shut) where
+module _ {B : Type 0} (k : Rule B) (capacity : ℕ) (s : State) (e : s .load .running .pending ≡ Shut) where
   -- the first two bytes
   one : (a : ℕ) (r : List ℕ) → run capacity (a ∷ r) between s ≡ run capacity r (head (a ∷ [])) s
   unfolding run step
@@ -79,12 +79,12 @@ module _ {B : Type 0} (k : Rule B) (capacity : ℕ) (s : State) (e : s .load .pe
   begins a (b ∷ c ∷ r) = rw (header-three a b c r) (begins-third a b c r (eqb c 0xFF) refl)
 
 -- a torn header, where the command ends or later
-pub run-torn : {B : Type 0} (k : Rule B) (capacity a : ℕ) (d : List ℕ) (s : State) → s .load .pending ≡ Shut → headerOf (a ∷ d) ≡ Torn
+pub run-torn : {B : Type 0} (k : Rule B) (capacity a : ℕ) (d : List ℕ) (s : State) → s .load .running .pending ≡ Shut → headerOf (a ∷ d) ≡ Torn
     → thence (run capacity (a ∷ d) between s) (atEnd k) ≡ failed 0x6A80 s
 run-torn k capacity a d s e q = rw q at (begins k capacity s e a d)
 
 -- a whole header
-pub run-whole : (capacity a : ℕ) (d : List ℕ) (h : Head) (s : State) → s .load .pending ≡ Shut → headerOf (a ∷ d) ≡ Whole h
+pub run-whole : (capacity a : ℕ) (d : List ℕ) (h : Head) (s : State) → s .load .running .pending ≡ Shut → headerOf (a ∷ d) ≡ Whole h
     → run capacity (a ∷ d) between s ≡ thence (begun capacity h s) (λ p. run capacity (drop (h .size) (a ∷ d)) p)
 run-whole capacity a d h s e q = rw q at (begins (went between) capacity s e a d)
 
@@ -124,13 +124,13 @@ pub header-long : (o : List ℕ) (h : Head) → headerOf o ≡ Whole h → Long 
 header-long o h q = rw q at (long-if o)
 
 -- the bytes of a header alone
-alone-whole : (capacity : ℕ) (u : List ℕ) (h : Head) (s : State) → s .load .pending ≡ Shut → headerOf u ≡ Whole h → length u ≡ h .size
+alone-whole : (capacity : ℕ) (u : List ℕ) (h : Head) (s : State) → s .load .running .pending ≡ Shut → headerOf u ≡ Whole h → length u ≡ h .size
     → run capacity u between s ≡ begun capacity h s
 alone-whole capacity [] h s e q n = absurd (let z : _≡_ {A = Header} Torn (Whole h) = unfold headerOf in q in let y : _≡_ {A = ℕ} 0 1 = cc in omega arith)
 alone-whole capacity (a ∷ u) h s e q n =
     run-whole capacity a u h s e q ∙ rw (drop-of-length-le (a ∷ u) {i = h .size} (omega arith)) (unfold run in thence-went (begun capacity h s))
 
-pub run-head : (capacity : ℕ) (o : List ℕ) (h : Head) (s : State) → s .load .pending ≡ Shut → headerOf o ≡ Whole h
+pub run-head : (capacity : ℕ) (o : List ℕ) (h : Head) (s : State) → s .load .running .pending ≡ Shut → headerOf o ≡ Whole h
     → run capacity (take (h .size) o) between s ≡ begun capacity h s
 run-head capacity o h s e q =
     let l : Long o h = header-long o h q in

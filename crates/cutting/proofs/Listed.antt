@@ -88,7 +88,7 @@ in-stays a (Record tag written missing) b s h = h
 bytes-stay : (a bs : List ℕ) (s : State) → Stays a s → Leaves (Stays a) (tableBytes bs s)
 unfolding tableBytes
 bytes-stay a [] s h = h
-bytes-stay a (b ∷ bs) s h = go (inTable (s .load .pending) b s) (in-stays a (s .load .pending) b s h) (λ s₁ k. bytes-stay a bs s₁ k)
+bytes-stay a (b ∷ bs) s h = go (inTable (s .load .running .pending) b s) (in-stays a (s .load .running .pending) b s h) (λ s₁ k. bytes-stay a bs s₁ k)
   where
     go : (r : Result ℕ) → Leaves (Stays a) r → ((s₁ : State) → Stays a s₁ → Leaves (Stays a) (tableBytes bs s₁)) → Leaves (Stays a) (thence r (λ n. tableBytes bs))
     go (went n s₁) k ih = ih s₁ k

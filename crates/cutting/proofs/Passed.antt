@@ -57,7 +57,7 @@ query-stops n p1 bytes h s =
     by-cond Stops (aloneAtStart n bytes h)
     (λ a. by-cond Stops (bit1 p1 && not (bit8 p1))
     (λ b. by-cond Stops (eqb (h .tag) 0x9484)
-    (λ c. by-cond Stops (eqb (s .load .internal) 0xCC && due (s .load .rows) (s .load .last) 1 0x9484) (λ d. tt) (λ d. tt))
+    (λ c. by-cond Stops (eqb (s .load .running .internal) 0xCC && due (s .load .running .rows) (s .load .running .last) 1 0x9484) (λ d. tt) (λ d. tt))
     (λ c. tt))
     (λ b. tt))
     (λ a. tt)
@@ -75,7 +75,7 @@ after-b n p1 bytes h s k b s′ e = go (isQuery (h .tag)) e
 pub record Passed (capacity : ℕ) (bytes : List ℕ) (s : State) (left : List ℕ) (s′ : State) : Type 0 where
   pub h : Head
   pub header : headerOf bytes ≡ Whole h
-  pub due-so : due (s .load .rows) (s .load .last) (rowOf (h .tag)) (h .tag) ≡ true
+  pub due-so : due (s .load .running .rows) (s .load .running .last) (rowOf (h .tag)) (h .tag) ≡ true
   pub room : ℕ
   pub room-so : roomOf (fileList (s .load)) (rowOf (h .tag)) (h .tag) ≡ Passes room
   pub length-so : lengthOk (rowOf (h .tag)) room (h .len) ≡ true
@@ -110,9 +110,9 @@ module _ (capacity n p1 : ℕ) (bytes : List ℕ) (s : State) (left : List ℕ) 
   after-d : (h : Head) → headerOf bytes ≡ Whole h → fromD h s₀ ≡ went left s′ → Passed capacity bytes s left s′
   unfolding ruleD dueRow ruleE
   after-d h q e =
-      let d = after-verdict (dueRow (s .load .rows) (s .load .last) (h .tag)) s₀ _ left s′ e in
-      let r : (d .0 ≡ rowOf (h .tag)) × (due (s .load .rows) (s .load .last) (rowOf (h .tag)) (h .tag) ≡ true) =
-      due-row (eqb (rowOf (h .tag)) 0) (due (s .load .rows) (s .load .last) (rowOf (h .tag)) (h .tag)) 0x6A88 0x6985 (rowOf (h .tag)) (d .0) (d .1) in
+      let d = after-verdict (dueRow (s .load .running .rows) (s .load .running .last) (h .tag)) s₀ _ left s′ e in
+      let r : (d .0 ≡ rowOf (h .tag)) × (due (s .load .running .rows) (s .load .running .last) (rowOf (h .tag)) (h .tag) ≡ true) =
+      due-row (eqb (rowOf (h .tag)) 0) (due (s .load .running .rows) (s .load .running .last) (rowOf (h .tag)) (h .tag)) 0x6A88 0x6985 (rowOf (h .tag)) (d .0) (d .1) in
       let f = after-verdict (roomOf (fileList (s .load)) (d .0) (h .tag)) s₀ _ left s′ (d .2) in
       let g : (lengthOk (d .0) (f .0) (h .len) ≡ true) × (ruleH capacity (d .0) h (drop (h .size) bytes) s₀ ≡ went left s′) = after-f h (d .0) (f .0) (f .2) in
       record {
@@ -128,7 +128,7 @@ module _ (capacity n p1 : ℕ) (bytes : List ℕ) (s : State) (left : List ℕ) 
   -- c
   after-c : (h : Head) → headerOf bytes ≡ Whole h → thence (ruleC s) (λ a. fromD h) ≡ went left s′ → Passed capacity bytes s left s′
   unfolding ruleC
-  after-c h q e = after-d h q (after-refusal (eqb (s .load .internal) 0xA5) 0x6985 s s₀ (fromD h) left s′ e)
+  after-c h q e = after-d h q (after-refusal (eqb (s .load .running .internal) 0xA5) 0x6985 s s₀ (fromD h) left s′ e)
 
   abbrev fromB : Head → Rule (List ℕ)
   fromB h = do

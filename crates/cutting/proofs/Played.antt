@@ -38,15 +38,15 @@ event-stores : (chip : Chip) (p1 : ℕ) (d : List ℕ) (s : State) → 1 ≤ len
     → event (record { kind = 2; p1 = p1; bytes = d }) (jobCard chip s) (s .area) ≡ commanded (jobCard chip s) (command (chip .capacity) p1 d s)
 unfolding event personalizing otherwise storeData
 event-stores chip p1 d s l =
-    rw (cond-same (eqb (s .load .internal) 0x5A), ne-eqb (length d) 0 (λ (e : length d ≡ 0). omega arith))
+    rw (cond-same (eqb (s .load .running .internal) 0x5A), ne-eqb (length d) 0 (λ (e : length d ≡ 0). omega arith))
 
-turn-stores : (chip : Chip) (p1 n : ℕ) (u : List ℕ) (s s₁ : State) → Misses (s .load .pending) n → 1 ≤ length u → run (chip .capacity) u between s ≡ went between s₁
+turn-stores : (chip : Chip) (p1 n : ℕ) (u : List ℕ) (s s₁ : State) → Misses (s .load .running .pending) n → 1 ≤ length u → run (chip .capacity) u between s ≡ went between s₁
     → turnOf (jobCard chip s) (s .area) (stored p1 u) ≡ replied (commanded (jobCard chip s) (theEnd p1 s₁))
 turn-stores chip p1 n u s s₁ m l e =
     turn-stored (record { kind = 2; p1 = p1; bytes = u }) (jobCard chip s) (s .area) refl
     ∙ ap replied (event-stores chip p1 u s l ∙ ap (commanded (jobCard chip s)) (command-passes (chip .capacity) p1 n u s s₁ m l e))
 
-after-more : (chip : Chip) (n : ℕ) (ws u : List ℕ) (s s₁ : State) → Misses (s .load .pending) n → 1 ≤ length u → run (chip .capacity) u between s ≡ went between s₁
+after-more : (chip : Chip) (n : ℕ) (ws u : List ℕ) (s s₁ : State) → Misses (s .load .running .pending) n → 1 ≤ length u → run (chip .capacity) u between s ≡ went between s₁
     → after (runAt ws chip s) (stored 0x00 u) ≡ runAt (ws ++ (0x9000 ∷ [])) chip s₁
 unfolding after
 after-more chip n ws u s s₁ m l e = ap (turned (runAt ws chip s)) (turn-stores chip 0x00 n u s s₁ m l e) ∙ unfold theEnd in refl
@@ -55,7 +55,7 @@ after-more chip n ws u s s₁ m l e = ap (turned (runAt ws chip s)) (turn-stores
 abbrev pub loaded : State → State
 loaded s = changed (withInternal 0xA5) s
 
-after-last : (chip : Chip) (n : ℕ) (ws u : List ℕ) (s s₁ : State) → Misses (s .load .pending) n → 1 ≤ length u → run (chip .capacity) u between s ≡ went between s₁
+after-last : (chip : Chip) (n : ℕ) (ws u : List ℕ) (s s₁ : State) → Misses (s .load .running .pending) n → 1 ≤ length u → run (chip .capacity) u between s ≡ went between s₁
     → ready s₁ ≡ true → after (runAt ws chip s) (stored 0x80 u) ≡ runAt (ws ++ (0x9000 ∷ [])) chip (loaded s₁)
 unfolding after
 after-last chip n ws u s s₁ m l e r = ap (turned (runAt ws chip s)) (turn-stores chip 0x80 n u s s₁ m l e) ∙ unfold theEnd in rw r
@@ -68,7 +68,7 @@ abbrev Takes : Chip → State → List (List ℕ) → State → Type 0
 Takes chip s us s′ = (ws : List ℕ) → runFrom (runAt ws chip s) (storedAll us) ≡ runAt (ws ++ replicate (length us) 0x9000) chip (loaded s′)
 
 takes-next : (chip : Chip) {s₁ s′ : State} {us : List (List ℕ)} → Chain (chip .capacity) dataRoom s₁ us s′ → (n : ℕ) (u : List ℕ) (s : State)
-    → Misses (s .load .pending) n → 1 ≤ length u → run (chip .capacity) u between s ≡ went between s₁ → ready s′ ≡ true
+    → Misses (s .load .running .pending) n → 1 ≤ length u → run (chip .capacity) u between s ≡ went between s₁ → ready s′ ≡ true
     → (1 ≤ length us → Takes chip s₁ us s′) → Takes chip s (u ∷ us) s′
 unfolding storedAll runFrom
 takes-next chip (done {s = s₁} {s′} q) n u s m l e r k ws = after-last chip n ws u s s′ m l (e ∙ ap (went between) q) r

@@ -28,10 +28,10 @@ use Rattle.cutting.proofs.Begins.{Begins, fails, opens, awaits, begins-
 -- states that they lead from and to
 pub data Chain (capacity most : ℕ) : State → List (List ℕ) → State → Type 0 where
   done : {s s′ : State} → s ≡ s′ → Chain capacity most s [] s′
-  link : {s s₁ s₂ : State} {u : List ℕ} {us : List (List ℕ)} (n : ℕ) → Misses (s .load .pending) n → 1 ≤ length u → length u ≤ most
+  link : {s s₁ s₂ : State} {u : List ℕ} {us : List (List ℕ)} (n : ℕ) → Misses (s .load .running .pending) n → 1 ≤ length u → length u ≤ most
       → run capacity u between s ≡ went between s₁ → Chain capacity most s₁ us s₂ → Chain capacity most s (u ∷ us) s₂
 
-closed-misses : (s : State) → Closed s → Misses (s .load .pending) 0
+closed-misses : (s : State) → Closed s → Misses (s .load .running .pending) 0
 closed-misses s c = subst (λ (o : Open). Misses o 0) (sym c) shut
 
 units-none : (fuel : ℕ) → unitsIn fuel [] ≡ []
@@ -49,17 +49,17 @@ module _ (capacity fuel : ℕ) (s′ : State) where
   run-one b s s₁ e = rw e
 
   -- the bytes of a value that may run on, one unit each
-  value-chain : (rest : List ℕ) (n : ℕ) (s : State) → Misses (s .load .pending) n → run capacity rest between s ≡ went between s′
+  value-chain : (rest : List ℕ) (n : ℕ) (s : State) → Misses (s .load .running .pending) n → run capacity rest between s ≡ went between s′
       → Later (drop n rest) → Chain capacity longestUnit s (single (take n rest) ++ unitsIn fuel (drop n rest)) s′
   unfolding single run
-  value-chain rest zero s m e later = later s (misses-none (s .load .pending) m) e
+  value-chain rest zero s m e later = later s (misses-none (s .load .running .pending) m) e
   value-chain [] (suc n) s m e later = let q : s ≡ s′ = cc in rw (units-none fuel) (done q)
   value-chain (b ∷ bs) (suc n) s m e later =
       byte (step capacity between b s) refl (step-rests capacity b n s m) e (λ s₁ m₁ e₁. value-chain bs n s₁ m₁ e₁ later)
     where
-      byte : (r : Result Part) → step capacity between b s ≡ r → Rests (λ s₁. Misses (s₁ .load .pending) n) r
+      byte : (r : Result Part) → step capacity between b s ≡ r → Rests (λ s₁. Misses (s₁ .load .running .pending) n) r
           → thence r (λ p. run capacity bs p) ≡ went between s′
-          → ((s₁ : State) → Misses (s₁ .load .pending) n → run capacity bs between s₁ ≡ went between s′ → Chain capacity longestUnit s₁ (single (take n bs) ++ unitsIn fuel (drop n bs)) s′)
+          → ((s₁ : State) → Misses (s₁ .load .running .pending) n → run capacity bs between s₁ ≡ went between s′ → Chain capacity longestUnit s₁ (single (take n bs) ++ unitsIn fuel (drop n bs)) s′)
           → Chain capacity longestUnit s ((b ∷ []) ∷ (single (take n bs) ++ unitsIn fuel (drop n bs))) s′
       byte (went p s₁) q h g ih = link (suc n) m (lit≤ tt) (lit≤ tt) (run-one b s s₁ (q ∙ ap (λ (x : Part). went x s₁) (h .0))) (ih s₁ (h .1) (rw (h .0) at g))
       byte (asked t s₁) q h g ih = absurd (asked-not t s₁ s′ between g)
@@ -129,7 +129,7 @@ module _ (capacity fuel : ℕ) (s′ : State) where
         (sym (awaited-short (went 0) capacity row (h .len) rest s₁ (leb-false (h .len) (length rest) y)) ∙ ap (λ (r : Result Part). thence r (atEnd (went 0))) g))
 
     -- a grouping that may
-    open-chain : begun capacity h s ≡ went between s₁ → Misses (s₁ .load .pending) (h .len)
+    open-chain : begun capacity h s ≡ went between s₁ → Misses (s₁ .load .running .pending) (h .len)
         → run capacity rest between s₁ ≡ went between s′ → Later (drop (h .len) rest)
         → Chain capacity longestUnit s (take (h .size) o ∷ (single (take (h .len) rest) ++ unitsIn fuel (drop (h .size + h .len) o))) s′
     open-chain b m g later =

@@ -53,7 +53,7 @@ awaited-short k capacity row (suc n) rest s h = rw (value-short capacity row n r
 
 -- what is kept opens nothing
 abbrev pub Closed : State → Type 0
-Closed s = s .load .pending ≡ Shut
+Closed s = s .load .running .pending ≡ Shut
 
 pub kept-closed : (capacity row : ℕ) (v : List ℕ) (s : State) → Closed s → Leaves Closed (kept capacity row v s)
 unfolding kept startup

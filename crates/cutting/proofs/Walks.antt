@@ -61,7 +61,7 @@ walk-run (suc fuel) capacity n p1 k (b ∷ bs) s f l o plain =
     })
 
 -- behind data byte 0 no grouping asks anything
-pub walk-behind : {B : Type 0} (capacity n p1 : ℕ) (k : Rule B) (bytes : List ℕ) (s : State) → length bytes < n → s .load .pending ≡ Shut
+pub walk-behind : {B : Type 0} (capacity n p1 : ℕ) (k : Rule B) (bytes : List ℕ) (s : State) → length bytes < n → s .load .running .pending ≡ Shut
     → thence (walk (length bytes) capacity n p1 bytes s) (λ a. k) ≡ thence (run capacity bytes between s) (atEnd k)
 walk-behind capacity n p1 k bytes s l o = walk-run (length bytes) capacity n p1 k bytes s (le-refl (length bytes)) (omega arith) o (λ h q. plain-behind n bytes h l)
 
@@ -79,7 +79,7 @@ command-agrees capacity n p1 bound l = record {
   some = λ left s lt c. walk-run (length left) capacity n p1 (theEnd p1) left s (le-refl (length left)) (omega arith) c (λ h q. plain-behind n left h (omega arith));
 }
 
-command-open : (capacity p1 n b : ℕ) (bs : List ℕ) (s : State) → Misses (s .load .pending) (suc n)
+command-open : (capacity p1 n b : ℕ) (bs : List ℕ) (s : State) → Misses (s .load .running .pending) (suc n)
     → Agrees capacity (length (b ∷ bs)) (theEnd p1) (commandThen capacity (length (b ∷ bs)) p1)
     → thence (thence (step capacity between b s) (λ p. fed bs)) (commandThen capacity (length (b ∷ bs)) p1)
     ≡ thence (run capacity (b ∷ bs) between s) (atEnd (theEnd p1))
@@ -90,13 +90,13 @@ command-open capacity p1 n b bs s m agrees =
     (step capacity between b s) (step-rests capacity b n s m)
 
 -- THE BRIDGE: a command that asks nothing is the byte-wise walk over its bytes, with its end
-pub command-run : (capacity p1 n : ℕ) (bytes : List ℕ) (s : State) → Misses (s .load .pending) n → asks (s .load .pending) bytes ≡ false
+pub command-run : (capacity p1 n : ℕ) (bytes : List ℕ) (s : State) → Misses (s .load .running .pending) n → asks (s .load .running .pending) bytes ≡ false
     → command capacity p1 bytes s ≡ thence (run capacity bytes between s) (atEnd (theEnd p1))
 unfolding command
 command-run capacity p1 zero bytes s m q =
-    let o : Closed s = misses-none (s .load .pending) m in
+    let o : Closed s = misses-none (s .load .running .pending) m in
     rw (fed-shut bytes s o)
-    (walk-run (length bytes) capacity (length bytes) p1 (theEnd p1) bytes s (le-refl (length bytes)) (le-refl (length bytes)) o (unasked (s .load .pending) bytes (length bytes) o q))
+    (walk-run (length bytes) capacity (length bytes) p1 (theEnd p1) bytes s (le-refl (length bytes)) (le-refl (length bytes)) o (unasked (s .load .running .pending) bytes (length bytes) o q))
 command-run capacity p1 (suc n) [] s m q = rw (fed-none n s m) (walk-none zero capacity 0 p1 (theEnd p1) s ∙ unfold run in refl)
 command-run capacity p1 (suc n) (b ∷ bs) s m q =
     rw (fed-step capacity b n bs s m)
@@ -111,7 +111,7 @@ fits-table l held (suc n) f q =
     table {held = held} {n = n} (omega arith) (omega arith)
   where
     fits : tableFits (l .count) held (suc n) ≡ true
-    fits = and-right (not (taken (l .rows) 5)) (tableFits (l .count) held (suc n)) f
+    fits = and-right (not (taken (l .running .rows) 5)) (tableFits (l .count) held (suc n)) f
 
 fits-misses : (o : Open) (l : Loading) → pendingFits o l ≡ true → someMissing o ≡ true → (n : ℕ) × Misses o n
 fits-misses Shut l f q = (0, shut)
@@ -122,20 +122,20 @@ fits-misses (Record tag written (suc n)) l f q = (suc n, stored)
 -- what sound says besides
 abbrev besides : Life → Loading → Bool
 besides f l =
-    gpOk (f .gp) && internalOk (l .internal) (f .gp) && nameOk (f .namelen) (f .gp) && selectedOk (f .selected) (f .gp) (l .internal)
-    && descriptorsOk l && rowsOk (l .rows) (f .gp) && tablePlaced l (f .gp) && secretsOk (l .secrets) && openOk (l .pending) (f .gp) (l .internal)
+    gpOk (f .gp) && internalOk (l .running .internal) (f .gp) && nameOk (f .namelen) (f .gp) && selectedOk (f .selected) (f .gp) (l .running .internal)
+    && descriptorsOk l && rowsOk (l .running .rows) (f .gp) && tablePlaced l (f .gp) && secretsOk (l .secrets) && openOk (l .running .pending) (f .gp) (l .running .internal)
 
-pub sound-misses : (c : Card) → sound c ≡ true → (n : ℕ) × Misses (c .loading .pending) n
+pub sound-misses : (c : Card) → sound c ≡ true → (n : ℕ) × Misses (c .loading .running .pending) n
 unfolding soundWith
 sound-misses c h =
-    fits-misses (c .loading .pending) (c .loading)
-    (and-right (besides (c .life) (c .loading)) (pendingFits (c .loading .pending) (c .loading)) (and-left (besides (c .life) (c .loading) && pendingFits (c .loading .pending) (c .loading)) (someMissing (c .loading .pending)) h))
-    (and-right (besides (c .life) (c .loading) && pendingFits (c .loading .pending) (c .loading)) (someMissing (c .loading .pending)) h)
+    fits-misses (c .loading .running .pending) (c .loading)
+    (and-right (besides (c .life) (c .loading)) (pendingFits (c .loading .running .pending) (c .loading)) (and-left (besides (c .life) (c .loading) && pendingFits (c .loading .running .pending) (c .loading)) (someMissing (c .loading .running .pending)) h))
+    (and-right (besides (c .life) (c .loading) && pendingFits (c .loading .running .pending) (c .loading)) (someMissing (c .loading .running .pending)) h)
 
 -- the bridge on a sound card
-pub command-sound : (c : Card) (area : List ℕ) (p1 : ℕ) (bytes : List ℕ) → sound c ≡ true → asks (c .loading .pending) bytes ≡ false
+pub command-sound : (c : Card) (area : List ℕ) (p1 : ℕ) (bytes : List ℕ) → sound c ≡ true → asks (c .loading .running .pending) bytes ≡ false
     → command (c .chip .capacity) p1 bytes (record { load = c .loading; area = area })
     ≡ thence (run (c .chip .capacity) bytes between (record { load = c .loading; area = area })) (atEnd (theEnd p1))
 command-sound c area p1 bytes h q =
-    let m : (n : ℕ) × Misses (c .loading .pending) n = sound-misses c h in
+    let m : (n : ℕ) × Misses (c .loading .running .pending) n = sound-misses c h in
     command-run (c .chip .capacity) p1 (m .0) bytes (record { load = c .loading; area = area }) (m .1) q

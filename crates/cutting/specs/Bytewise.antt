@@ -74,7 +74,7 @@ onHead capacity Torn u s = cond (leb 5 (length u)) (failed 0x6A80 s) (went (head
 onHead capacity (Whole h) u s = begun capacity h s
 
 unfoldable pub step : ℕ → Part → ℕ → Rule Part
-step capacity between b s = openByte (s .load .pending) b s
+step capacity between b s = openByte (s .load .running .pending) b s
 step capacity (head bs) b s = onHead capacity (headerOf (bs ++ (b ∷ []))) (bs ++ (b ∷ [])) s
 step capacity (value row zero bs) b s = ending capacity row (bs ++ (b ∷ [])) s
 step capacity (value row (suc n) bs) b s = went (value row n (bs ++ (b ∷ []))) s

@@ -62,7 +62,7 @@ pub record Taken (n : ℕ) (x : Session) : Type 0 where
   pub number : x .number ≡ 0
   pub words : x .run .words ≡ replicate n 0x9000
   pub gp : x .run .card .life .gp ≡ 0x07
-  pub internal : x .run .card .loading .internal ≡ 0xA5
+  pub internal : x .run .card .loading .running .internal ≡ 0xA5
 
 -- what the writer asks: the chip record's form, an order of at most 8,192 bytes that is complete for that chip, and room
 pub record Accepted (chip order : List ℕ) (room : ℕ) : Type 0 where

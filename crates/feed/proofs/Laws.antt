@@ -15,24 +15,24 @@ use Rattle.model.specs.declared.Verdict.the-variants.{Passes, Refuses}
 use Rattle.model.specs.Loads.{withOpen}
 use Rattle.model.specs.Rules.{Result, went, thence, tableByte, tableBytes}
 use Rattle.soundness.proofs.Feeding.{Fed}
-use Rattle.steps.specs.declared.Taken.{Taken}
-use Rattle.steps.specs.Steps.{stateOf, TakenTo}
-use Rattle.steps.proofs.Values.{open-facts, never-shut, never-record, table-held, table-last, table-fails, table-passes-on, fed-on, passed-to}
-use Rattle.feed.specs.Bytes.{heldOf, Ended}
+use Rattle.steps.specs.Steps.{stateOf}
+use Rattle.feed.specs.declared.Taken.{Taken}
+use Rattle.feed.proofs.Bytes.{open-facts, never-shut, never-record, table-held, table-last, table-fails, table-passes-on, fed-on, passed-to}
+use Rattle.feed.specs.Bytes.{heldOf, Ended, TakenTo}
 
 -- what misses bytes of '3100' has it open, with less than a descriptor held
-pub opened : (l : Loading) (m held at end : ℕ) → held ≡ heldOf (l .pending) → Fed 0 m (stateOf l []) → at < end → end - at ≤ m
-    → (l .pending ≡ Table held m) × (held ≤ 17) × (l .count ≤ 31) × (length (l .files) ≡ 31)
-opened l m held at end q y i j = rw q (go (l .pending) refl)
+pub opened : (l : Loading) (m held at end : ℕ) → held ≡ heldOf (l .running .pending) → Fed 0 m (stateOf l []) → at < end → end - at ≤ m
+    → (l .running .pending ≡ Table held m) × (held ≤ 17) × (l .count ≤ 31) × (length (l .files) ≡ 31)
+opened l m held at end q y i j = rw q (go (l .running .pending) refl)
   where
-    go : (o : Open) → l .pending ≡ o → (o ≡ Table (heldOf o) m) × (heldOf o ≤ 17) × (l .count ≤ 31) × (length (l .files) ≡ 31)
+    go : (o : Open) → l .running .pending ≡ o → (o ≡ Table (heldOf o) m) × (heldOf o ≤ 17) × (l .count ≤ 31) × (length (l .files) ≡ 31)
     go Shut e = absurd (never-shut l m y e (omega arith))
     go (Record tag written left) e = absurd (never-record l m y tag written left e)
     go (Table h left) e = let f = open-facts l m y h left e in (ap (Table h) (f .0), omega (arith, f .1), f .2, f .3)
 
 -- n bytes from a place on: as many as end no descriptor, or all of them
 module _ (d : List ℕ) (at end held m n : ℕ) (e : n ≡ min (17 - held) (end - at)) (h : held ≤ 17) (i : at < end) (j : end ≤ length d)
-    (l r : Loading) (o : l .pending ≡ Table held m)
+    (l r : Loading) (o : l .running .pending ≡ Table held m)
     (k : r ≡ withOpen (Table (held + n) (m - n)) (overwrite (l .held) held (part d at (at + n - at))) l) (a : List ℕ) where
   -- they are held
   pub holds : tableBytes (part d at (at + n - at)) (stateOf l a) ≡ went 0 (stateOf r a)
@@ -48,7 +48,7 @@ module _ (d : List ℕ) (at end held m n : ℕ) (e : n ≡ min (17 - held) (end 
     with-last : tableBytes (part d at (at + n + 1 - at)) (stateOf l a) ≡ thence last (λ y. went 0)
     with-last =
         let q : held + n ≡ 17 = omega arith in
-        let p : r .pending ≡ Table 17 (m - n) = ap (λ (l : Loading). l .pending) k ∙ rw q in
+        let p : r .running .pending ≡ Table 17 (m - n) = ap (λ (l : Loading). l .running .pending) k ∙ rw q in
         table-last d at (at + n) (m - n) (stateOf l a) (stateOf r a) (omega arith) (omega arith) p holds
 
     -- a descriptor's last byte behind them

@@ -1,48 +1,57 @@
-// A value that runs on from command to command: its bytes are taken as they come.
+// Bytes of an open '3100', taken as they come from command to command.
 use model::Descriptor;
 use model::Loading;
 use model::Open;
+use model::Running;
 use model::Verdict;
-use steps::Course;
-use steps::Step;
-use steps::Taken;
 ghost use mathlib.Core.Path.{_≡_};
 ghost use mathlib.Core.List.{List, []};
-ghost use Prim.Native.Nat.{ℕ, _+_, _-_, _≤_, _<_};
+ghost use Prim.Native.Nat.{ℕ, _+_, _-_, _≤_, _<_, min};
 ghost use lib.ListN.{length, drop};
 ghost use Rattle.lists.specs.Over.{overwrite};
-ghost use Rattle.model.specs.declared.Open.the-variants.{Table};
 ghost use Rattle.model.specs.Loads.{withFile};
-ghost use Rattle.model.specs.Rules.{tableDone, tableByte, feeding};
+ghost use Rattle.model.specs.Rules.{tableDone, tableByte, fed};
 ghost use Rattle.soundness.proofs.Feeding.{Fed};
-ghost use Rattle.steps.specs.Steps.{stateOf, stepped, TakenTo};
-ghost use Rattle.feed.specs.Bytes.{heldOf, Ended};
+ghost use Rattle.steps.specs.Steps.{stateOf, missingIn};
+ghost use Rattle.feed.specs.Bytes.{heldOf, Ended, tableRun, TakenTo, fedAs, Reaches};
 
 const TABLE_ROW: usize = 5;
 
-// A descriptor enters the table, which misses so much after it: taken whole, or still open.
+// A value's bytes taken, or refused by a word, and the loading part.
+pub struct Taken {
+    pub verdict: Verdict,
+    pub load: Loading,
+}
+
+// A descriptor is in the table, which misses so much behind it: taken whole, or still open.
+fn table_run(p: Running, missing: usize) -> Running
+    ensures { λ r. ⌜ r ≡ tableRun missing p ⌝ }
+{
+    if missing == 0 {
+        let shut = steps::with_open(p, Open::Shut);
+        return steps::with_taken(shut, TABLE_ROW);
+    }
+    steps::with_open(
+        p,
+        Open::Table {
+            held: 0,
+            missing: missing,
+        },
+    )
+}
+
+// A descriptor enters the table.
 fn entered(mut l: Loading, d: Descriptor, missing: usize) -> Loading
     requires { ⌜ l .count < 31 ⌝ }
     ensures { λ r. ⌜ ((a : List ℕ) → tableDone missing (stateOf (withFile d l) a) ≡ stateOf r a) ⌝ }
 {
     let at = l.count;
-    let mut files = l.files;
-    files[at] = d;
-    l.files = files;
+    let running = table_run(l.running, missing);
+    l.files[at] = d;
     l.count = at + 1;
-    let none = [0u8; 18];
-    if missing == 0 {
-        l = steps::with_open(l, Open::Shut, none);
-        return steps::with_taken(l, TABLE_ROW);
-    }
-    steps::with_open(
-        l,
-        Open::Table {
-            held: 0,
-            missing: missing,
-        },
-        none,
-    )
+    l.held = [0u8; 18];
+    l.running = running;
+    l
 }
 
 // The last byte of a descriptor, before `next`: it is judged, and stands in the table or not.
@@ -97,20 +106,22 @@ fn descriptor_fed(mut l: Loading, d: &[u8], at: usize, end: usize, missing: usiz
     requires { ⌜ Fed 0 missing (stateOf l []) × (at < end) × (end ≤ length (now d)) × (end - at ≤ missing) ⌝ }
     ensures { λ r. ⌜ ((a : List ℕ) → TakenTo (r .verdict) (now (d .entry)) at end (stateOf l a) (stateOf (r .load) a)) ⌝ }
 {
-    let pending = l.pending;
+    let p = l.running;
+    let pending = p.pending;
     let held = held_of(pending);
     let n = bytes::least(17 - held, end - at);
     let last = at + n;
     let before = l.held;
     let bytes = stashed(before, held, &d[at..last]);
-    l = steps::with_open(
-        l,
+    l.held = bytes;
+    let running = steps::with_open(
+        p,
         Open::Table {
             held: held + n,
             missing: missing - n,
         },
-        bytes,
     );
+    l.running = running;
     if last == end {
         return Taken {
             verdict: Verdict::Passes(end),
@@ -120,29 +131,49 @@ fn descriptor_fed(mut l: Loading, d: &[u8], at: usize, end: usize, missing: usiz
     last_byte(l, missing - n - 1, d[last], last + 1)
 }
 
-// An open '3100' takes its bytes, descriptor by descriptor.
-pub fn table_fed(mut l: Loading, d: &[u8], mut at: usize, mut missing: usize) -> Step
-    requires { ⌜ (at ≤ length (now d)) × Fed 0 missing (stateOf l []) ⌝ }
-    ensures { λ r. ⌜ ((a : List ℕ) → stepped r (now (d .entry)) a ≡ feeding (Table 0 missing) (drop at (now (d .entry))) (stateOf l a)) ⌝ }
+// How much an open '3100' misses.
+fn missing_in(o: Open) -> usize
+    ensures { λ r. ⌜ r ≡ missingIn o ⌝ }
 {
+    match o {
+        Open::Table { held: _, missing } => missing,
+        Open::Shut => 0,
+        Open::Record {
+            tag: _,
+            written: _,
+            missing: _,
+        } => 0,
+    }
+}
+
+// An open '3100' takes its bytes from `at` on, descriptor by descriptor: what it misses, as far as the data goes.
+pub fn table_fed(mut l: Loading, d: &[u8], mut at: usize) -> Taken
+    requires { ⌜ (at ≤ length (now d)) × Fed 0 (missingIn (l .running .pending)) (stateOf l []) ⌝ }
+    ensures { λ r. ⌜ ((a : List ℕ) → fedAs (r .verdict) (now (d .entry)) (stateOf (r .load) a) ≡ fed (drop at (now (d .entry))) (stateOf l a)) × Reaches (r .verdict) (at + min (missingIn (l .running .pending)) (length (now (d .entry)) - at)) ⌝ }
+{
+    let p = l.running;
+    let pending = p.pending;
+    let mut missing = missing_in(pending);
     let end = at + bytes::least(missing, d.len() - at);
     while at < end {
         let t = descriptor_fed(l, d, at, end, missing);
-        let after = t.load;
         let verdict = t.verdict;
+        l = t.load;
         match verdict {
             Verdict::Passes(next) => {
                 missing -= next - at;
                 at = next;
-                l = after;
             }
-            Verdict::Refuses(w) => {
-                return steps::failed_by(w, after);
+            Verdict::Refuses(_) => {
+                return Taken {
+                    verdict: verdict,
+                    load: l,
+                };
             }
         }
     }
-    Step {
-        course: Course::Went(end),
+    Taken {
+        verdict: Verdict::Passes(end),
         load: l,
     }
 }

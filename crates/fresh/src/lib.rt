@@ -6,6 +6,7 @@ use model::Life;
 use model::Loading;
 use model::Made;
 use model::Open;
+use model::Running;
 use model::Secret;
 ghost use mathlib.Core.Path.{_≡_};
 ghost use Prim.Native.Nat.{_≤_};
@@ -49,10 +50,12 @@ pub fn fresh_loading() -> Loading
         len: 0,
     };
     Loading {
-        internal: 0xCC,
-        rows: 0,
-        last: 0,
-        pending: Open::Shut,
+        running: Running {
+            internal: 0xCC,
+            rows: 0,
+            last: 0,
+            pending: Open::Shut,
+        },
         held: [0; 18],
         files: [file; 31],
         count: 0,

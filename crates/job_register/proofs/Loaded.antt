@@ -20,7 +20,7 @@ use Rattle.model.specs.Lines.{lineOf, endOf, replayOf}
 use Rattle.cutting.specs.Job.{jobWith, sessionOf, Taken}
 use Rattle.cutting.proofs.Writes.{write-only, write-taken}
 use Rattle.fresh.proofs.Chips.{form-size}
-use Rattle.brief.proofs.Records.{records-more}
+use Rattle.events.proofs.Records.{records-more}
 use Rattle.register.specs.Entries.{Register, begun, counted, entry, entries, enteredOf, printed}
 use Rattle.register.proofs.Entries.{entries-append, lines-sized}
 use Rattle.register.proofs.Whole.{replay-prints, replay-ends}
@@ -74,8 +74,8 @@ unfolding recordsIn
 length-records zero b = refl
 length-records (suc n) b = rw (length-records n (drop recordSize b))
 
-line-loaded : (n kind number word : ℕ) (c : Card) → word ≡ 0x9000 → c .life .gp ≡ 0x07 → c .loading .internal ≡ 0xA5
-    → lineOf n kind number word c ≡ loadedLine n kind number (c .loading .rows)
+line-loaded : (n kind number word : ℕ) (c : Card) → word ≡ 0x9000 → c .life .gp ≡ 0x07 → c .loading .running .internal ≡ 0xA5
+    → lineOf n kind number word c ≡ loadedLine n kind number (c .loading .running .rows)
 line-loaded n kind number word c e f g = rw (e, f, g)
 
 -- the record behind k others
@@ -93,7 +93,7 @@ module _ (k : ℕ) (c : Card) (a b : List ℕ) where
 
   module _ (n : ℕ) (words : runFrom (runAs [] (begun 0 c a)) (recordsIn (k + 1) b) .words ≡ replicate n 0x9000)
       (gp : enteredOf (k + 1) 0 c a b .card .life .gp ≡ 0x07)
-      (internal : enteredOf (k + 1) 0 c a b .card .loading .internal ≡ 0xA5) where
+      (internal : enteredOf (k + 1) 0 c a b .card .loading .running .internal ≡ 0xA5) where
     last-word : turnOf (enteredOf k 0 c a b .card) (enteredOf k 0 c a b .area) (behindAll k b) .word ≡ 0x9000
     last-word =
         last-of n 0x9000 _ (runFrom (runAs [] (begun 0 c a)) (recordsIn k b) .words)
@@ -106,17 +106,17 @@ module _ (k : ℕ) (c : Card) (a b : List ℕ) where
         let r = behindAll k b in
         let t = turnOf (g .card) (g .area) r in
         let m = counted (g .count) in
-        let line = loadedLine m (byteAt r 0) (t .number) (t .card .loading .rows) in
+        let line = loadedLine m (byteAt r 0) (t .number) (t .card .loading .running .rows) in
         let card-so : enteredOf (k + 1) 0 c a b .card ≡ t .card = ap (λ (x : Register). x .card) one-more in
         let gp-so = ap (λ (x : Card). x .life .gp) (sym card-so) ∙ gp in
-        let internal-so = ap (λ (x : Card). x .loading .internal) (sym card-so) ∙ internal in
+        let internal-so = ap (λ (x : Card). x .loading .running .internal) (sym card-so) ∙ internal in
         let line-so : lineOf m (byteAt r 0) (t .number) (t .word) (t .card) ≡ line =
         line-loaded m (byteAt r 0) (t .number) (t .word) (t .card) last-word gp-so internal-so in
         let lines-so : enteredOf (k + 1) 0 c a b .lines ≡ g .lines ++ line =
         ap (λ (x : Register). x .lines) one-more ∙ ap (λ (l : List ℕ). g .lines ++ l) line-so in
         let sized : length (g .lines) ≡ (k + 1 - 1) * lineSize = lines-sized 0 c a b [] k ∙ omega arith in
         rw (lines-so, end-so)
-        (printed-whole (k + 1) m (byteAt r 0) (t .number) (t .card .loading .rows) (g .lines) (omega arith) few sized)
+        (printed-whole (k + 1) m (byteAt r 0) (t .number) (t .card .loading .running .rows) (g .lines) (omega arith) few sized)
 
 -- OF A SESSION THAT THE WRITER LAYS
 module _ (chip order : List ℕ) (room : ℕ) (z : sessionWriting chip order room .number ≡ 0) where
@@ -164,8 +164,8 @@ module _ (chip order : List ℕ) (room : ℕ) (z : sessionWriting chip order roo
   gp-so : registerOf chip (sessionWriting chip order room) .card .life .gp ≡ 0x07
   gp-so = ap (λ (x : Card). x .life .gp) card-so ∙ taken .gp
 
-  internal-so : registerOf chip (sessionWriting chip order room) .card .loading .internal ≡ 0xA5
-  internal-so = ap (λ (x : Card). x .loading .internal) card-so ∙ taken .internal
+  internal-so : registerOf chip (sessionWriting chip order room) .card .loading .running .internal ≡ 0xA5
+  internal-so = ap (λ (x : Card). x .loading .running .internal) card-so ∙ taken .internal
 
   loaded : (entryOf chip (sessionWriting chip order room) .gp ≡ 0x07) × (entryOf chip (sessionWriting chip order room) .internal ≡ 0xA5)
   unfolding entryOf

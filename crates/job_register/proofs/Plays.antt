@@ -29,5 +29,5 @@ ends chip bytes out lines out′ card area count x e =
 -- what the answer tells of the card is told of the register's
 pub answered : (n : ℕ) (g : Register) (card : Card) → card ≡ g .card
     → _≡_ {A = Entry}
-    (record { number = 0; events = n; gp = card .life .gp; internal = card .loading .internal; serial = card .loading .serial }) (enteredAs n g)
+    (record { number = 0; events = n; gp = card .life .gp; internal = card .loading .running .internal; serial = card .loading .serial }) (enteredAs n g)
 answered n g card e = rw e

@@ -42,7 +42,7 @@ refusedAs n = record { number = n; events = 0; gp = 0x00; internal = 0x00; seria
 
 abbrev pub enteredAs : ℕ → Register → Entry
 enteredAs n g =
-    record { number = 0; events = n; gp = g .card .life .gp; internal = g .card .loading .internal; serial = g .card .loading .serial }
+    record { number = 0; events = n; gp = g .card .life .gp; internal = g .card .loading .running .internal; serial = g .card .loading .serial }
 
 unfoldable pub entryOf : List ℕ → Writing → Entry
 entryOf chip w = cond (eqb (w .number) 0) (enteredAs (eventsOf w) (registerOf chip w)) (refusedAs (w .number))

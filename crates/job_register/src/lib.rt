@@ -49,7 +49,7 @@ fn play(chip: &[u8], records: &[u8], area: &mut [u8], out: &mut [u8]) -> Entry
         number: 0,
         events: events,
         gp: last.card.life.gp,
-        internal: last.card.loading.internal,
+        internal: last.card.loading.running.internal,
         serial: serial,
     }
 }

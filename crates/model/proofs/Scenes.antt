@@ -136,8 +136,8 @@ pub data Claim : Type 0 where
 
 unfoldable pub holds : Claim → List Turn → Turn → Bool
 holds (words ws) ts t = same (wordsIn ts) ws
-holds (ends g i) ts t = eqb (t .card .life .gp) g && eqb (t .card .loading .internal) i
-holds (rows r) ts t = eqb (t .card .loading .rows) r
+holds (ends g i) ts t = eqb (t .card .life .gp) g && eqb (t .card .loading .running .internal) i
+holds (rows r) ts t = eqb (t .card .loading .running .rows) r
 holds (answer b) ts t = same (t .answer) b
 holds (starts b) ts t = same (t .card .loading .startup) b
 holds (count n) ts t = eqb (t .card .loading .counter) n

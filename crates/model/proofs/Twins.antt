@@ -33,7 +33,7 @@ alike [] (u ∷ us) = false
 alike (t ∷ ts) [] = false
 alike (t ∷ ts) (u ∷ us) =
     eqb (t .number) (u .number) && eqb (t .word) (u .word) && same (t .answer) (u .answer) && eqb (t .card .life .gp) (u .card .life .gp)
-    && eqb (t .card .loading .internal) (u .card .loading .internal) && eqb (t .card .loading .rows) (u .card .loading .rows)
+    && eqb (t .card .loading .running .internal) (u .card .loading .running .internal) && eqb (t .card .loading .running .rows) (u .card .loading .running .rows)
     && same (t .area) (u .area) && alike ts us
 
 pub twins-alike : T (alike (turns 10 (loading 0x00)) (turns 10 (loading 0xFF)))

@@ -63,7 +63,7 @@ unfoldable pub lastsHold : List Last → Bool
 lastsHold [] = true
 lastsHold (x ∷ xs) =
     let t = endOf (turns 10 (x .session)) in
-    eqb (t .number) 0 && eqb (t .word) (x .word) && eqb (t .card .life .gp) (x .gp) && eqb (t .card .loading .internal) (x .internal) && lastsHold xs
+    eqb (t .number) 0 && eqb (t .word) (x .word) && eqb (t .card .life .gp) (x .gp) && eqb (t .card .loading .running .internal) (x .internal) && lastsHold xs
 
 pub words-reached : T (lastsHold lasts)
 unfolding computed lasts lastsHold

@@ -24,7 +24,7 @@ isShut (Record tag written missing) = false
 
 -- no mandatory row is missing, and no value open
 unfoldable pub ready : State → Bool
-ready s = not (mandatoryMissing (s .load .rows)) && isShut (s .load .pending)
+ready s = not (mandatoryMissing (s .load .running .rows)) && isShut (s .load .running .pending)
 
 -- "After the last grouping, P1 bit 8 asks for the end: a missing mandatory row or open value is '6985' and locks; else 'A5'."
 unfoldable pub theEnd : ℕ → Rule ℕ

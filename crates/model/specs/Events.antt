@@ -127,7 +127,7 @@ invalidated c = ltb 0 (c .loading .count) && eqb (getD (c .loading .files) 0 noF
 unfoldable pub select : List ℕ → Card → List ℕ → Reply
 select d c a =
     cond (eqb (c .life .gp) 0x07 && isName c d)
-    (cond (eqb (c .loading .internal) 0xCC) (gives 0x9000 (nameFci c) (withGp 0x07 true c) a)
+    (cond (eqb (c .loading .running .internal) 0xCC) (gives 0x9000 (nameFci c) (withGp 0x07 true c) a)
     (gives (cond (invalidated c) 0x6283 0x9000) (fullFci c) (withGp 0x07 true c) a))
     (says 0x6A82 c a)
 
@@ -156,11 +156,11 @@ unfoldable pub answerTo : ℕ → Card → List ℕ
 answerTo tag c =
     cond (eqb tag 0x9484) (c .chip .reference ++ c .chip .challenge)
     (cond (eqb tag 0x8185) (c .chip .traceability)
-    (0x9F ∷ 0x70 ∷ 0x01 ∷ c .life .gp ∷ 0x9F ∷ 0xDC ∷ 0x01 ∷ c .loading .internal ∷ []))
+    (0x9F ∷ 0x70 ∷ 0x01 ∷ c .life .gp ∷ 0x9F ∷ 0xDC ∷ 0x01 ∷ c .loading .running .internal ∷ []))
 
 -- "An error ends the command with no answer bytes. In '5A' it locks; in 'CC' and 'A5' nothing changes by it."
 unfoldable pub errs : ℕ → Card → List ℕ → Reply
-errs w c a = says w (cond (eqb (c .loading .internal) 0x5A) (locked c) c) a
+errs w c a = says w (cond (eqb (c .loading .running .internal) 0x5A) (locked c) c) a
 
 -- "Without an error the word is '9000'."
 abbrev pub commanded : Card → Result ℕ → Reply
@@ -202,4 +202,4 @@ otherwise e c a =
     (deselect c a))))))
 
 unfoldable pub event : Event → Card → List ℕ → Reply
-event e c a = cond (eqb (c .loading .internal) 0x5A) (personalizing e c a) (otherwise e c a)
+event e c a = cond (eqb (c .loading .running .internal) 0x5A) (personalizing e c a) (otherwise e c a)

@@ -44,7 +44,7 @@ lineWith n kind number word gp internal rows =
     ++ blank ∷ hex2 gp ++ blank ∷ hex2 internal ++ blank ∷ two (takenOf rows) ++ lineFeed ∷ []
 
 abbrev pub lineOf : ℕ → ℕ → ℕ → ℕ → Card → List ℕ
-lineOf n kind number word c = lineWith n kind number word (c .life .gp) (c .loading .internal) (c .loading .rows)
+lineOf n kind number word c = lineWith n kind number word (c .life .gp) (c .loading .running .internal) (c .loading .running .rows)
 
 -- "last END and the number of events, in five digits as above"
 unfoldable pub endOf : ℕ → List ℕ

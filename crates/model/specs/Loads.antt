@@ -7,6 +7,7 @@ use Rattle.model.specs.declared.Descriptor.{Descriptor}
 use Rattle.model.specs.declared.Secret.{Secret}
 use Rattle.model.specs.declared.Open.{Open}
 use Rattle.model.specs.declared.Open.the-variants.{Shut}
+use Rattle.model.specs.declared.Running.{Running}
 use Rattle.model.specs.declared.Loading.{Loading}
 use Rattle.model.specs.Rows.{withRow}
 
@@ -17,57 +18,23 @@ pub record State : Type 0 where
 abbrev pub fileList : Loading → List Descriptor
 fileList l = take (l .count) (l .files)
 
-abbrev pub withInternal : ℕ → Loading → Loading
-withInternal i l = record {
-  internal = i;
-  rows = l .rows;
-  last = l .last;
-  pending = l .pending;
-  held = l .held;
-  files = l .files;
-  count = l .count;
-  serial = l .serial;
-  startup = l .startup;
-  counter = l .counter;
-  secrets = l .secrets;
-}
+-- how far the loading is, with one of the four changed
+abbrev pub runningIn : ℕ → Running → Running
+runningIn i p = record { internal = i; rows = p .rows; last = p .last; pending = p .pending }
 
-abbrev pub withTaken : ℕ → Loading → Loading
-withTaken r l = record {
-  internal = l .internal;
-  rows = withRow (l .rows) r;
-  last = l .last;
-  pending = l .pending;
-  held = l .held;
-  files = l .files;
-  count = l .count;
-  serial = l .serial;
-  startup = l .startup;
-  counter = l .counter;
-  secrets = l .secrets;
-}
+abbrev pub runningTaken : ℕ → Running → Running
+runningTaken r p = record { internal = p .internal; rows = withRow (p .rows) r; last = p .last; pending = p .pending }
 
-abbrev pub withLast : ℕ → Loading → Loading
-withLast t l = record {
-  internal = l .internal;
-  rows = l .rows;
-  last = t;
-  pending = l .pending;
-  held = l .held;
-  files = l .files;
-  count = l .count;
-  serial = l .serial;
-  startup = l .startup;
-  counter = l .counter;
-  secrets = l .secrets;
-}
+abbrev pub runningLast : ℕ → Running → Running
+runningLast t p = record { internal = p .internal; rows = p .rows; last = t; pending = p .pending }
 
-abbrev pub withOpen : Open → List ℕ → Loading → Loading
-withOpen o h l = record {
-  internal = l .internal;
-  rows = l .rows;
-  last = l .last;
-  pending = o;
+abbrev pub runningOpen : Open → Running → Running
+runningOpen o p = record { internal = p .internal; rows = p .rows; last = p .last; pending = o }
+
+-- the loading part that is as far, with these bytes held
+abbrev pub withProgress : Running → List ℕ → Loading → Loading
+withProgress p h l = record {
+  running = p;
   held = h;
   files = l .files;
   count = l .count;
@@ -77,16 +44,28 @@ withOpen o h l = record {
   secrets = l .secrets;
 }
 
+abbrev pub withRunning : Running → Loading → Loading
+withRunning p l = withProgress p (l .held) l
+
+abbrev pub withInternal : ℕ → Loading → Loading
+withInternal i l = withRunning (runningIn i (l .running)) l
+
+abbrev pub withTaken : ℕ → Loading → Loading
+withTaken r l = withRunning (runningTaken r (l .running)) l
+
+abbrev pub withLast : ℕ → Loading → Loading
+withLast t l = withRunning (runningLast t (l .running)) l
+
+abbrev pub withOpen : Open → List ℕ → Loading → Loading
+withOpen o h l = withProgress (runningOpen o (l .running)) h l
+
 -- nothing open, and no byte held
 abbrev pub withNoneOpen : Loading → Loading
 withNoneOpen l = withOpen Shut (zeros 18) l
 
 abbrev pub withFile : Descriptor → Loading → Loading
 withFile d l = record {
-  internal = l .internal;
-  rows = l .rows;
-  last = l .last;
-  pending = l .pending;
+  running = l .running;
   held = l .held;
   files = set (l .files) (l .count) d;
   count = l .count + 1;
@@ -98,10 +77,7 @@ withFile d l = record {
 
 abbrev pub withSerial : List ℕ → Loading → Loading
 withSerial v l = record {
-  internal = l .internal;
-  rows = l .rows;
-  last = l .last;
-  pending = l .pending;
+  running = l .running;
   held = l .held;
   files = l .files;
   count = l .count;
@@ -113,10 +89,7 @@ withSerial v l = record {
 
 abbrev pub withStartup : List ℕ → Loading → Loading
 withStartup v l = record {
-  internal = l .internal;
-  rows = l .rows;
-  last = l .last;
-  pending = l .pending;
+  running = l .running;
   held = l .held;
   files = l .files;
   count = l .count;
@@ -128,10 +101,7 @@ withStartup v l = record {
 
 abbrev pub withCounter : ℕ → Loading → Loading
 withCounter n l = record {
-  internal = l .internal;
-  rows = l .rows;
-  last = l .last;
-  pending = l .pending;
+  running = l .running;
   held = l .held;
   files = l .files;
   count = l .count;
@@ -143,10 +113,7 @@ withCounter n l = record {
 
 abbrev pub withSecret : ℕ → Secret → Loading → Loading
 withSecret i x l = record {
-  internal = l .internal;
-  rows = l .rows;
-  last = l .last;
-  pending = l .pending;
+  running = l .running;
   held = l .held;
   files = l .files;
   count = l .count;

@@ -81,7 +81,7 @@ bit8 p1 = leb 0x80 p1
 
 unfoldable pub challenged : Rule ℕ
 challenged s =
-    cond (eqb (s .load .internal) 0xCC && due (s .load .rows) (s .load .last) 1 0x9484)
+    cond (eqb (s .load .running .internal) 0xCC && due (s .load .running .rows) (s .load .running .last) 1 0x9484)
     (asked 0x9484 (changed (withTaken 1) s))
     (failed 0x6985 s)
 
@@ -96,7 +96,7 @@ ruleB n p1 bytes h s = cond (isQuery (h .tag)) (query n p1 bytes h s) (went 0 s)
 
 -- c. "Any other: in 'A5' '6985'; in 'CC' the state becomes '5A' now, before any later check."
 unfoldable pub ruleC : Rule ℕ
-ruleC s = cond (eqb (s .load .internal) 0xA5) (failed 0x6985 s) (went 0 (changed (withInternal 0x5A) s))
+ruleC s = cond (eqb (s .load .running .internal) 0xA5) (failed 0x6985 s) (went 0 (changed (withInternal 0x5A) s))
 
 -- d. "Unknown tag '6A88'. Row not due '6985'."
 unfoldable pub dueRow : ℕ → ℕ → ℕ → Verdict
@@ -105,7 +105,7 @@ dueRow rows last tag =
     (cond (due rows last (rowOf tag) tag) (Passes (rowOf tag)) (Refuses 0x6985))
 
 unfoldable pub ruleD : ℕ → Rule ℕ
-ruleD tag s = judged (dueRow (s .load .rows) (s .load .last) tag) s
+ruleD tag s = judged (dueRow (s .load .running .rows) (s .load .running .last) tag) s
 
 -- e. "'ssnn': SFI ss listed as binary, linear, cyclic or counters, nn 0 for binary, else 1 to NumRec; else '6A88'."
 -- It passes with the most bytes that the value may have.
@@ -186,7 +186,7 @@ inTable (Record tag written missing) b s = went 0 s
 
 unfoldable pub tableBytes : List ℕ → Rule ℕ
 tableBytes [] = does (λ s. s)
-tableBytes (b ∷ bs) = (λ s. inTable (s .load .pending) b s) >> tableBytes bs
+tableBytes (b ∷ bs) = (λ s. inTable (s .load .running .pending) b s) >> tableBytes bs
 
 -- "'ssnn' bytes are written as they come, from the record's start; all other bytes stay."
 abbrev pub laid : Spot → ℕ → List ℕ → List ℕ → List ℕ
@@ -205,7 +205,7 @@ feeding (Table held missing) bytes s = thence (tableBytes (take missing bytes) s
 feeding (Record tag written missing) bytes s = went (drop missing bytes) (recordBytes tag written missing (take missing bytes) s)
 
 unfoldable pub fed : List ℕ → Rule (List ℕ)
-fed bytes s = feeding (s .load .pending) bytes s
+fed bytes s = feeding (s .load .running .pending) bytes s
 
 abbrev pub openedAs : ℕ → ℕ → ℕ → Open
 openedAs row tag len = cond (eqb row 5) (Table 0 len) (Record tag 0 len)

@@ -48,7 +48,7 @@ tableOpen (Record tag written missing) = false
 
 -- "descriptors only where row 5 is taken, '3100' is open, or the card is locked in '5A'"
 abbrev pub tablePlaced : Loading → ℕ → Bool
-tablePlaced l g = eqb (l .count) 0 || taken (l .rows) 5 || tableOpen (l .pending) || (eqb (l .internal) 0x5A && eqb g 0x87)
+tablePlaced l g = eqb (l .count) 0 || taken (l .running .rows) 5 || tableOpen (l .running .pending) || (eqb (l .running .internal) 0x5A && eqb g 0x87)
 
 -- "secrets at most 64 bytes"
 unfoldable pub secretsOk : List Secret → Bool
@@ -68,7 +68,7 @@ recordFits (At base size) written missing = leb (written + missing) size
 
 abbrev pub pendingFits : Open → Loading → Bool
 pendingFits Shut l = true
-pendingFits (Table held missing) l = not (taken (l .rows) 5) && tableFits (l .count) held missing
+pendingFits (Table held missing) l = not (taken (l .running .rows) 5) && tableFits (l .count) held missing
 pendingFits (Record tag written missing) l = recordFits (tagSpot (fileList l) tag) written missing
 
 -- "missing at least 1 in both"
@@ -85,9 +85,9 @@ openOk (Record tag written missing) g i = eqb g 0x07 && eqb i 0x5A
 
 unfoldable pub soundWith : Life → Loading → Bool
 soundWith f l =
-    gpOk (f .gp) && internalOk (l .internal) (f .gp) && nameOk (f .namelen) (f .gp) && selectedOk (f .selected) (f .gp) (l .internal)
-    && descriptorsOk l && rowsOk (l .rows) (f .gp) && tablePlaced l (f .gp) && secretsOk (l .secrets)
-    && openOk (l .pending) (f .gp) (l .internal) && pendingFits (l .pending) l && someMissing (l .pending)
+    gpOk (f .gp) && internalOk (l .running .internal) (f .gp) && nameOk (f .namelen) (f .gp) && selectedOk (f .selected) (f .gp) (l .running .internal)
+    && descriptorsOk l && rowsOk (l .running .rows) (f .gp) && tablePlaced l (f .gp) && secretsOk (l .secrets)
+    && openOk (l .running .pending) (f .gp) (l .running .internal) && pendingFits (l .running .pending) l && someMissing (l .running .pending)
 
 abbrev pub sound : Card → Bool
 sound c = soundWith (c .life) (c .loading)

@@ -47,10 +47,7 @@ noSecret = record { bytes = zeros 64; len = 0 }
 -- "A fresh card is made from it: absent (GP '00'), internal 'CC', counter 200,000, all else zero."
 abbrev pub freshLoading : Loading
 freshLoading = record {
-  internal = 0xCC;
-  rows = 0;
-  last = 0;
-  pending = Shut;
+  running = record { internal = 0xCC; rows = 0; last = 0; pending = Shut };
   held = zeros 18;
   files = replicate 31 noFile;
   count = 0;

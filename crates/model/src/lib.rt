@@ -44,12 +44,17 @@ pub enum Open {
     },
 }
 
-// What groupings change: nothing else of a card is the walk's to touch.
-pub struct Loading {
+// How far the loading is: what almost every grouping changes, and small.
+pub struct Running {
     pub internal: u8,
     pub rows: u16,
     pub last: u16,
     pub pending: Open,
+}
+
+// What groupings change: nothing else of a card is the walk's to touch.
+pub struct Loading {
+    pub running: Running,
     pub held: [u8; 18],
     pub files: [Descriptor; 31],
     pub count: usize,

@@ -71,17 +71,17 @@ moved true true true true true i j k = rw and-true
 
 -- The clauses in the order in which they are asked: the count, those on life, on what is loaded, on an open value, and the table's.
 module _ (f : Life) (l : Loading) where
-  parts : soundWith f l ≡ (lifePart f (l .internal) && loadPart l (f .gp) && openPart l (f .gp) && descriptorsOk l)
+  parts : soundWith f l ≡ (lifePart f (l .running .internal) && loadPart l (f .gp) && openPart l (f .gp) && descriptorsOk l)
   unfolding soundWith
-  parts = moved (lifePart f (l .internal)) (descriptorsOk l) _ _ _ _ _ _
+  parts = moved (lifePart f (l .running .internal)) (descriptorsOk l) _ _ _ _ _ _
 
   pub count-over : 31 < l .count → soundWith f l ≡ false
   count-over h = rw (parts, lt-leb (l .count) 31 h, and-false)
 
-  pub life-fails : lifePart f (l .internal) ≡ false → soundWith f l ≡ false
+  pub life-fails : lifePart f (l .running .internal) ≡ false → soundWith f l ≡ false
   life-fails e = rw (parts, e)
 
-  module _ (life : lifePart f (l .internal) ≡ true) where
+  module _ (life : lifePart f (l .running .internal) ≡ true) where
     pub load-fails : loadPart l (f .gp) ≡ false → soundWith f l ≡ false
     load-fails e = rw (parts, life, e)
 

@@ -9,7 +9,7 @@ abbrev pub lifePart : Life → ℕ → Bool
 lifePart f i = gpOk (f .gp) && internalOk i (f .gp) && nameOk (f .namelen) (f .gp) && selectedOk (f .selected) (f .gp) i
 
 abbrev pub loadPart : Loading → ℕ → Bool
-loadPart l g = rowsOk (l .rows) g && tablePlaced l g && secretsOk (l .secrets)
+loadPart l g = rowsOk (l .running .rows) g && tablePlaced l g && secretsOk (l .secrets)
 
 abbrev pub openPart : Loading → ℕ → Bool
-openPart l g = openOk (l .pending) g (l .internal) && pendingFits (l .pending) l && someMissing (l .pending)
+openPart l g = openOk (l .running .pending) g (l .running .internal) && pendingFits (l .running .pending) l && someMissing (l .running .pending)

@@ -68,7 +68,7 @@ fn table_fits(count: usize, held: usize, missing: usize) -> bool
 fn open_table_fits(l: Loading, held: usize, missing: usize) -> bool
     ensures { λ r. ⌜ r ≡ pendingFits (Open.Table held missing) l ⌝ }
 {
-    if sets::is_taken(l.rows, TABLE_ROW) {
+    if sets::is_taken(l.running.rows, TABLE_ROW) {
         return false;
     }
     table_fits(l.count, held, missing)
@@ -134,8 +134,9 @@ pub fn value_ok(l: Loading, g: u8) -> bool
     requires { ⌜ l .count ≤ 31 ⌝ }
     ensures { λ r. ⌜ r ≡ openPart l g ⌝ }
 {
-    let o = l.pending;
-    if open_ok(o, g, l.internal) {
+    let running = l.running;
+    let o = running.pending;
+    if open_ok(o, g, l.running.internal) {
         if pending_fits(o, l) {
             return some_missing(o);
         }

@@ -8,13 +8,14 @@ ghost use lib.ListN.{take};
 ghost use Rattle.model.specs.Table.{spotIn, spotOf};
 ghost use Rattle.model.specs.Loads.{fileList};
 ghost use Rattle.model.specs.Rules.{tagSpot};
+ghost use Rattle.places.specs.Scans.{scanFrom};
 
 const BINARY: u8 = 0x01;
 
 const SIMULATED: u8 = 0x08;
 
 // Record nn of a file that begins at `base`.
-fn spot_in(d: Descriptor, base: usize, nn: u8) -> Spot
+pub fn spot_in(d: Descriptor, base: usize, nn: u8) -> Spot
     requires { ⌜ base ≤ 31 * 65535 ⌝ }
     ensures { λ r. ⌜ r ≡ spotIn d base nn ⌝ }
 {
@@ -44,6 +45,16 @@ fn spot_in(d: Descriptor, base: usize, nn: u8) -> Spot
         base: begin,
         size: size,
     }
+}
+
+// Where a search for the file with this SFI begins, among so many: no file is found by SFI 0.
+pub fn scan_from(sfi: u8, count: usize) -> usize
+    ensures { λ r. ⌜ r ≡ scanFrom sfi count ⌝ }
+{
+    if sfi == 0 {
+        return count;
+    }
+    0
 }
 
 // The place of record nn of the file with this SFI.

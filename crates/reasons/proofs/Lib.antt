@@ -1,4 +1,4 @@
--- A reason stands exactly where an order is not complete.
+-- A reason stands exactly where an order is not complete; and it is read off the card's walk.
 pub mod Reasons
-pub mod Shorter
-pub mod Walks
+mod Left
+mod Walks

@@ -11,7 +11,7 @@ use Rattle.model.specs.Order.{finished, complete, challengedState}
 use Rattle.stops.specs.declared.Stop.{Stop}
 use Rattle.reasons.specs.declared.Why.{Why}
 use Rattle.reasons.specs.declared.Why.the-variants.{Complete, Stops}
-use Rattle.reasons.specs.Reasons.{endStop, atEnd, stopsAt, onward, placeOf, whyFrom, whyNot, isComplete}
+use Rattle.reasons.specs.Reasons.{endStop, atEnd, stopsAt, whyOn, placeOf, whyFrom, whyNot, isComplete}
 
 ended : (b : Bool) (x : Stop) → isComplete (cond b Complete (Stops x)) ≡ b
 ended true x = refl
@@ -23,11 +23,11 @@ end-so n place s = ended (ready s) (endStop n place s)
 
 -- one grouping: the two go on alike
 step-so : (later : List ℕ → State → Why) (after : List ℕ → State → Result ℕ) → ((left : List ℕ) (t : State) → isComplete (later left t) ≡ finished (after left t))
-    → (n : ℕ) (bytes : List ℕ) (s : State) (r : Result (List ℕ)) → isComplete (onward later n bytes s r) ≡ finished (thence r after)
+    → (n : ℕ) (bytes : List ℕ) (r : Result (List ℕ)) → isComplete (whyOn later n bytes r) ≡ finished (thence r after)
 unfolding stopsAt
-step-so later after e n bytes s (went left t) = e left t
-step-so later after e n bytes s (asked tag t) = refl
-step-so later after e n bytes s (failed w t) = refl
+step-so later after e n bytes (went left t) = e left t
+step-so later after e n bytes (asked tag t) = refl
+step-so later after e n bytes (failed w t) = refl
 
 walk-so : (fuel capacity n place : ℕ) (bytes : List ℕ) (s : State)
     → isComplete (whyFrom fuel capacity n place bytes s) ≡ finished (walk fuel capacity n 0x00 bytes s)
@@ -36,7 +36,7 @@ walk-so zero capacity n place bytes s = end-so n place s
 walk-so (suc fuel) capacity n place [] s = end-so n place s
 walk-so (suc fuel) capacity n place (b ∷ bs) s =
     step-so (λ left t. whyFrom fuel capacity n (placeOf n (b ∷ bs)) left t) (λ left t. walk fuel capacity n 0x00 left t)
-    (λ left t. walk-so fuel capacity n (placeOf n (b ∷ bs)) left t) n (b ∷ bs) s (grouping capacity n 0x00 (b ∷ bs) s)
+    (λ left t. walk-so fuel capacity n (placeOf n (b ∷ bs)) left t) n (b ∷ bs) (grouping capacity n 0x00 (b ∷ bs) s)
 
 pub why-not-complete : (capacity : ℕ) (order : List ℕ) → isComplete (whyNot capacity order) ≡ complete capacity order
 unfolding whyNot complete

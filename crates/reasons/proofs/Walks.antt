@@ -1,90 +1,79 @@
--- The search for a reason, grouping by grouping, beside the card's walk.
+-- The reason is read off the card's walk: how it ended, where its last grouping began, and the state that it left.
 use Prim.Native.Nat.{ℕ, zero, suc, _+_, _-_, _≤_, _<_}
-use mathlib.Core.Path.{_≡_, refl, sym, _∙_, subst}
-use mathlib.Core.List.{List, _++_}
+use mathlib.Core.Path.{_≡_, refl, ap, _∙_}
+use mathlib.Core.List.{List, [], _∷_, _++_}
 use native.Mathlib.Omega.{arith}
-use lib.ListN.{length, drop, length-drop, length-append, drop-of-length-le}
-use lib.Seq.{drop-cons}
-use Rattle.model.specs.Stored.{areaSize}
-use Rattle.model.specs.declared.Loading.{Loading}
-use Rattle.model.specs.Loads.{State, fileList, withTaken}
-use Rattle.model.specs.Stored.{freshLoading}
+use lib.ListN.{length, drop, length-drop, length-append}
 use Rattle.lists.specs.Bytes.{zeros}
-use Rattle.model.specs.Rules.{went, asked, failed, grouping}
+use Rattle.model.specs.declared.Loading.{Loading}
+use Rattle.model.specs.Stored.{areaSize}
+use Rattle.model.specs.Loads.{State, fileList}
+use Rattle.model.specs.Rules.{Result, went, asked, failed, grouping}
 use Rattle.model.specs.Order.{challengedState}
-use Rattle.soundness.specs.Keeps.{GoesOn, Kept}
-use Rattle.soundness.proofs.Keeps.{grouping-goes}
-use Rattle.soundness.proofs.Parts.{sound-parts}
-use Rattle.steps.specs.Steps.{activeLife, stateOf}
-use Rattle.records.specs.Steps.{Walking}
+use Rattle.steps.specs.Steps.{stateOf}
+use Rattle.walk.specs.Paces.{Paced, pacedOn, paced, onward}
+use Rattle.load.specs.declared.End.{End}
+use Rattle.load.specs.Ends.{endOf, Walked}
 use Rattle.stops.specs.Stops.{stopOf}
 use Rattle.complete.proofs.Complete.{front}
+use Rattle.reasons.specs.declared.Why.{Why}
 use Rattle.reasons.specs.declared.Why.the-variants.{Stops}
-use Rattle.reasons.specs.Reasons.{atEnd, stopsAt, onward, placeOf, whyFrom, whyNot}
+use Rattle.reasons.specs.Reasons.{atEnd, stopsAt, whyOn, whyFrom, whyNot}
+use Rattle.reasons.proofs.Left.{Rest, Leaves, grouping-leaves, placed}
 
-module _ (capacity : ℕ) (d : List ℕ) (s : State) where
-  pub why-ends : (turns place i : ℕ) → length d ≤ i → whyFrom turns capacity (length d) place (drop i d) s ≡ atEnd (length d) place s
-  unfolding whyFrom
-  why-ends zero place i h = refl
-  why-ends (suc f) place i h = rw (drop-of-length-le d {i = i} h)
+-- the grouping at a place in the data is not taken
+abbrev pub stopIn : List ℕ → ℕ → ℕ → State → Why
+stopIn d w at t = Stops (stopOf (t .load .running .rows) (t .load .running .last) (fileList (t .load)) (t .load .count) w (at - 3) (drop at d))
 
-  pub why-out : (turns place : ℕ) (bytes : List ℕ) → turns ≡ 0 → whyFrom turns capacity (length d) place bytes s ≡ atEnd (length d) place s
-  unfolding whyFrom
-  why-out turns place bytes e = rw e
+-- this is the reason by the end of a walk whose last grouping began at a place; the place lies behind '9484'
+abbrev pub Tells : List ℕ → Why → ℕ → Result ℕ → Type 0
+Tells d y at (went k t) = (3 ≤ at) × (y ≡ atEnd (length d) (at - 3) t)
+Tells d y at (asked q t) = (3 ≤ at) × (at < length d) × (y ≡ stopIn d 0x9000 at t)
+Tells d y at (failed w t) = (3 ≤ at) × (at < length d) × (y ≡ stopIn d w at t)
 
-  module _ (turns place i : ℕ) (h : 0 < turns) (g : i < length d) where
-    place-so : placeOf (length d) (drop i d) ≡ i - 3
-    place-so = rw length-drop (omega arith)
+module _ (capacity : ℕ) (d : List ℕ) where
+  -- one grouping at a place: what follows it tells the reason, or it stops there
+  step-tells : (later : List ℕ → State → Why) (walks : List ℕ → State → Paced) (at b : ℕ) (bs : List ℕ) (x : Rest d (b ∷ bs)) → at ≡ length d - length (b ∷ bs)
+      → ((left : List ℕ) (t : State) → Rest d left → Tells d (later left t) (walks left t .place) (walks left t .result))
+      → (r : Result (List ℕ)) → Leaves d r → Tells d (whyOn later (length d) (b ∷ bs) r) (pacedOn walks at r .place) (pacedOn walks at r .result)
+  unfolding stopsAt
+  step-tells later walks at b bs x e f (went left t) z = f left t z
+  step-tells later walks at b bs x e f (asked q t) z =
+      let g = placed d b bs x in
+      let p : at ≡ x .from = e ∙ g .0 in
+      (omega arith, omega arith, rw (← e, x .same, p))
+  step-tells later walks at b bs x e f (failed w t) z =
+      let g = placed d b bs x in
+      let p : at ≡ x .from = e ∙ g .0 in
+      (omega arith, omega arith, rw (← e, x .same, p))
 
-    turn : whyFrom turns capacity (length d) place (drop i d) s
-        ≡ onward (λ left t. whyFrom (turns - 1) capacity (length d) (placeOf (length d) (drop i d)) left t) (length d) (drop i d) s (grouping capacity (length d) 0x00 (drop i d) s)
-    unfolding whyFrom
-    turn = by turns h
-      where
-        by : (k : ℕ) → 0 < k → whyFrom k capacity (length d) place (drop i d) s
-            ≡ onward (λ left t. whyFrom (k - 1) capacity (length d) (placeOf (length d) (drop i d)) left t) (length d) (drop i d) s (grouping capacity (length d) 0x00 (drop i d) s)
-        by zero l = absurd (omega arith)
-        by (suc f) l = let e : suc f - 1 ≡ f = omega arith in rw (drop-cons d i 0 g, e)
+  -- THE REASON IS READ OFF THE WALK
+  walk-tells : (fuel at : ℕ) (bytes : List ℕ) (s : State) → 3 ≤ at → Rest d bytes
+      → Tells d (whyFrom fuel capacity (length d) (at - 3) bytes s) (paced fuel capacity (length d) 0x00 at bytes s .place) (paced fuel capacity (length d) 0x00 at bytes s .result)
+  unfolding whyFrom paced
+  walk-tells zero at bytes s h x = (h, refl)
+  walk-tells (suc fuel) at [] s h x = (h, refl)
+  walk-tells (suc fuel) at (b ∷ bs) s h x =
+      let i : ℕ = length d - length (b ∷ bs) in
+      let p : i ≡ x .from = placed d b bs x .0 in
+      step-tells (λ left t. whyFrom fuel capacity (length d) (i - 3) left t) (λ left t. paced fuel capacity (length d) 0x00 i left t) i b bs x refl
+      (λ left t z. walk-tells fuel i left t (omega arith) z) (grouping capacity (length d) 0x00 (b ∷ bs) s) (grouping-leaves d capacity (length d) 0x00 (b ∷ bs) s x)
 
-    goes : Walking i d s → GoesOn activeLife areaSize (grouping capacity (length d) 0x00 (drop i d) s)
-    goes w =
-        let l : 1 ≤ length (drop i d) = rw length-drop (omega arith) in
-        grouping-goes activeLife areaSize refl refl capacity (length d) 0x00 (drop i d) s (w .kept) (w .shut l)
+-- nothing is open at first
+begins : (capacity n : ℕ) (bytes : List ℕ) → onward capacity n 0x00 3 bytes challengedState ≡ paced (length bytes) capacity n 0x00 3 bytes challengedState
+unfolding onward paced
+begins capacity n [] = refl
+begins capacity n (b ∷ bs) = refl
 
-    -- a grouping passed: the search goes on behind it
-    pub why-goes : (j : ℕ) (t : State) → Walking i d s → went (drop j d) t ≡ grouping capacity (length d) 0x00 (drop i d) s
-        → Walking j d t
-        × (whyFrom turns capacity (length d) place (drop i d) s ≡ whyFrom (turns - 1) capacity (length d) (i - 3) (drop j d) t)
-    why-goes j t w e = (subst (GoesOn activeLife areaSize) (sym e) (goes w), turn ∙ rw (← e, place-so))
-
-    -- it was not taken
-    pub why-asks : (tag : ℕ) (t : State) → asked tag t ≡ grouping capacity (length d) 0x00 (drop i d) s
-        → whyFrom turns capacity (length d) place (drop i d) s
-        ≡ Stops (stopOf (s .load .rows) (s .load .last) (fileList (s .load)) (fileList (t .load)) (t .load .count) 0x9000 (i - 3) (drop i d))
-    unfolding stopsAt
-    why-asks tag t e = turn ∙ rw (← e, place-so)
-
-    pub why-fails : (w : ℕ) (t : State) → failed w t ≡ grouping capacity (length d) 0x00 (drop i d) s
-        → whyFrom turns capacity (length d) place (drop i d) s
-        ≡ Stops (stopOf (s .load .rows) (s .load .last) (fileList (s .load)) (fileList (t .load)) (t .load .count) w (i - 3) (drop i d))
-    unfolding stopsAt
-    why-fails w t e = turn ∙ rw (← e, place-so)
-
-    -- the table has at most 31 descriptors, also where the grouping stopped
-    pub asks-count : (tag : ℕ) (t : State) → Walking i d s → asked tag t ≡ grouping capacity (length d) 0x00 (drop i d) s → t .load .count ≤ 31
-    asks-count tag t w e =
-        let k : Kept activeLife areaSize t = subst (GoesOn activeLife areaSize) (sym e) (goes w) in sound-parts activeLife (t .load) (k .sound) .count
-
-    pub fails-count : (x : ℕ) (t : State) → Walking i d s → failed x t ≡ grouping capacity (length d) 0x00 (drop i d) s → t .load .count ≤ 31
-    fails-count x t w e =
-        let k : Kept activeLife areaSize t = subst (GoesOn activeLife areaSize) (sym e) (goes w) in sound-parts activeLife (t .load) (k .sound) .count
-
-  pub walking-count : (i : ℕ) → Walking i d s → s .load .count ≤ 31
-  walking-count i w = sound-parts activeLife (s .load) (w .kept .sound) .count
-
--- the search begins as completeness does
-pub started : (load fresh : Loading) → fresh ≡ freshLoading → load ≡ withTaken 1 fresh → stateOf load (zeros areaSize) ≡ challengedState
-started load fresh e f = rw (f, e)
+-- what the card's walk came to, from that start
+pub walked-tells : (capacity : ℕ) (d : List ℕ) (start : Loading) → start ≡ challengedState .load
+    → (end : End) (place : ℕ) (load : Loading) (area : List ℕ) → Walked end place load area (onward capacity (length d) 0x00 3 (drop 3 d) (stateOf start (zeros areaSize)))
+    → (x : End) → end ≡ x → Tells d (whyFrom (length d - 3) capacity (length d) 0 (drop 3 d) challengedState) place (endOf x (stateOf load area))
+walked-tells capacity d start e end place load area w x f =
+    let g : onward capacity (length d) 0x00 3 (drop 3 d) (stateOf start (zeros areaSize)) ≡ paced (length d - 3) capacity (length d) 0x00 3 (drop 3 d) challengedState =
+    rw e (begins capacity (length d) (drop 3 d) ∙ ap (λ (n : ℕ). paced n capacity (length d) 0x00 3 (drop 3 d) challengedState) (length-drop 3 d)) in
+    rw (← f, w .ends, w .places, g)
+    (walk-tells capacity d (length d - 3) 3 (drop 3 d) challengedState (omega arith) (record { from = 3; behind = omega arith; same = refl }))
 
 pub why-behind-so : (capacity : ℕ) (order : List ℕ) → whyFrom (length (front ++ order) - 3) capacity (length (front ++ order)) 0 order challengedState ≡ whyNot capacity order
 unfolding whyNot

@@ -23,7 +23,7 @@ openStop (Table held missing) n place rows = stopAs place 0x3100 0x6985 (cause.O
 openStop (Record tag written missing) n place rows = stopAs place tag 0x6985 (cause.Open missing)
 
 abbrev pub endStop : ℕ → ℕ → State → Stop
-endStop n place s = openStop (s .load .pending) n place (s .load .rows)
+endStop n place s = openStop (s .load .running .pending) n place (s .load .running .rows)
 
 unfoldable pub atEnd : ℕ → ℕ → State → Why
 atEnd n place s = cond (ready s) Complete (Stops (endStop n place s))
@@ -32,23 +32,23 @@ atEnd n place s = cond (ready s) Complete (Stops (endStop n place s))
 abbrev pub placeOf : ℕ → List ℕ → ℕ
 placeOf n bytes = n - length bytes - 3
 
--- a grouping that is not taken
-unfoldable pub stopsAt : ℕ → List ℕ → State → ℕ → State → Why
-stopsAt n bytes s w t =
-    Stops (stopOf (s .load .rows) (s .load .last) (fileList (s .load)) (fileList (t .load)) (t .load .count) w (placeOf n bytes) bytes)
+-- a grouping that is not taken, and the state that it leaves
+unfoldable pub stopsAt : ℕ → List ℕ → ℕ → State → Why
+stopsAt n bytes w t =
+    Stops (stopOf (t .load .running .rows) (t .load .running .last) (fileList (t .load)) (t .load .count) w (placeOf n bytes) bytes)
 
 -- one grouping, and what follows it
-abbrev pub onward : (List ℕ → State → Why) → ℕ → List ℕ → State → Result (List ℕ) → Why
-onward later n bytes s (went left t) = later left t
-onward later n bytes s (asked tag t) = stopsAt n bytes s 0x9000 t
-onward later n bytes s (failed w t) = stopsAt n bytes s w t
+abbrev pub whyOn : (List ℕ → State → Why) → ℕ → List ℕ → Result (List ℕ) → Why
+whyOn later n bytes (went left t) = later left t
+whyOn later n bytes (asked tag t) = stopsAt n bytes 0x9000 t
+whyOn later n bytes (failed w t) = stopsAt n bytes w t
 
 -- as many turns as there are bytes are enough
 unfoldable pub whyFrom : ℕ → ℕ → ℕ → ℕ → List ℕ → State → Why
 whyFrom zero capacity n place bytes s = atEnd n place s
 whyFrom (suc fuel) capacity n place [] s = atEnd n place s
 whyFrom (suc fuel) capacity n place (b ∷ bs) s =
-    onward (λ left t. whyFrom fuel capacity n (placeOf n (b ∷ bs)) left t) n (b ∷ bs) s (grouping capacity n 0x00 (b ∷ bs) s)
+    whyOn (λ left t. whyFrom fuel capacity n (placeOf n (b ∷ bs)) left t) n (b ∷ bs) (grouping capacity n 0x00 (b ∷ bs) s)
 
 unfoldable pub whyNot : ℕ → List ℕ → Why
 whyNot capacity order = whyFrom (length order) capacity (3 + length order) 0 order challengedState

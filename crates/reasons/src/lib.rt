@@ -1,7 +1,7 @@
 // Why an order is not complete: the first piece of it that the card does not take, or what its end leaves.
+use load::End;
 use model::Loading;
 use model::Open;
-use steps::Course;
 use stops::Cause;
 use stops::Stop;
 ghost use mathlib.Core.Path.{_≡_};
@@ -14,8 +14,6 @@ ghost use Rattle.reasons.specs.Reasons.{whyFrom, whyNot, atEnd, endStop}
 
 // How many bytes '9484' takes, with no value.
 const FRONT_SIZE: usize = 3;
-
-const CHALLENGE_ROW: usize = 1;
 
 // The word of an order whose pieces all pass, where the end is asked for.
 const NOT_YET: u16 = 0x6985;
@@ -31,13 +29,14 @@ fn end_stop(l: Loading, size: usize, place: usize) -> Stop
     requires { ⌜ 3 ≤ size ⌝ }
     ensures { λ r. ⌜ ((a : List ℕ) → r ≡ endStop size place (stateOf l a)) ⌝ }
 {
-    let pending = l.pending;
+    let running = l.running;
+    let pending = running.pending;
     match pending {
         Open::Shut => Stop {
             place: size - FRONT_SIZE,
             tag: 0x0000,
             word: NOT_YET,
-            cause: Cause::Rows(l.rows),
+            cause: Cause::Rows(l.running.rows),
         },
         Open::Table { held: _, missing } => Stop {
             place: place,
@@ -69,40 +68,20 @@ fn at_end(l: Loading, size: usize, place: usize) -> Why
     Why::Stops(end_stop(l, size, place))
 }
 
-// The groupings of a command behind '9484', on a fresh card of this capacity that has given its challenge: the card's own rules.
+// The groupings of a command behind '9484', on a fresh card of this capacity that has given its challenge: the card's own walk.
 fn why_behind(capacity: u8, d: &[u8]) -> Why
     requires { ⌜ (3 ≤ length (now d)) × (length (now d) ≤ 8195) ⌝ }
     ensures { λ r. ⌜ r ≡ whyFrom (length (now (d .entry)) - 3) capacity (length (now (d .entry))) 0 (drop 3 (now (d .entry))) challengedState ⌝ }
 {
-    let mut load = steps::with_taken(fresh::fresh_loading(), CHALLENGE_ROW);
+    let load = complete::challenged();
     let mut area = [0u8; 4096];
-    let mut place: usize = 0;
-    let mut i = FRONT_SIZE;
-    let mut turns = d.len() - FRONT_SIZE;
-    while 0 < turns {
-        if d.len() <= i {
-            return at_end(load, d.len(), place);
-        }
-        let s = rules::grouping_at(load, &mut area, capacity, 0x00, d, i);
-        let course = s.course;
-        match course {
-            Course::Went(j) => {
-                load = s.load;
-                place = i - FRONT_SIZE;
-                i = j;
-                turns -= 1;
-            }
-            Course::Asked(_) => {
-                let after = s.load;
-                return Why::Stops(stops::stop_at(load, after, 0x9000, d, i));
-            }
-            Course::Failed(w) => {
-                let after = s.load;
-                return Why::Stops(stops::stop_at(load, after, w, d, i));
-            }
-        }
+    let s = load::walked(load, &mut area, capacity, 0x00, d, FRONT_SIZE);
+    let end = s.end;
+    match end {
+        End::Done => at_end(s.load, d.len(), s.place - FRONT_SIZE),
+        End::Asked(_) => Why::Stops(stops::stop_at(s.load, 0x9000, d, s.place)),
+        End::Failed(w) => Why::Stops(stops::stop_at(s.load, w, d, s.place)),
     }
-    at_end(load, d.len(), place)
 }
 
 // Why this order is not complete for a chip of this capacity.

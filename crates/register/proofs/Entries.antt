@@ -14,7 +14,7 @@ use Rattle.model.specs.Lines.{lineOf}
 use Rattle.soundness.specs.Keeps.{Good}
 use Rattle.soundness.proofs.Sessions.{turn-keeps}
 use Rattle.digits.proofs.Sizes.{length-line}
-use Rattle.brief.proofs.Records.{records-more}
+use Rattle.events.proofs.Records.{records-more}
 use Rattle.register.specs.Entries.{Register, begun, counted, entry, entries, enteredOf, Enters}
 
 -- two lists of records, the second on what the first left

@@ -1,2 +1,3 @@
 -- What the calls of a register say.
 pub mod Entries
+pub mod Owned

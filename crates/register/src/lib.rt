@@ -1,10 +1,20 @@
-// The register: records played one after the other, and a line for each.
+// The register: records played one after the other, and a line for each. It owns the card's parts, and changes them in place: what
+// is judged elsewhere is small.
+use load::End;
 use model::Card;
+use model::Life;
+use model::Open;
+use model::Running;
+use model::Spot;
+use model::Verdict;
+use steps::Course;
+ghost use mathlib.Core.Path.{_≡_};
 ghost use Prim.Native.Nat.{_+_, _*_, _/_, _≤_, _<_};
 ghost use lib.ListN.{length};
 ghost use Rattle.model.specs.Stored.{areaSize};
 ghost use Rattle.soundness.specs.Keeps.{Good};
 ghost use Rattle.register.specs.Entries.{enteredOf, Enters};
+ghost use Rattle.register.specs.Owned.{spanOf, heldAs, shutAs, lockedAs};
 
 pub const RECORD_SIZE: usize = 260;
 
@@ -13,15 +23,61 @@ pub const LINE_SIZE: usize = 26;
 // Event numbers are printed by their last five digits.
 pub const NUMBERS: u64 = 100_000;
 
+const DATA_PLACE: usize = 4;
+
 // The card after some records, and the last five digits of the number of events so far.
 pub struct Entered {
     pub card: Card,
     pub count: u64,
 }
 
+// How many bytes a record has for the walk: none where it is no command, or refused by a number.
+fn span(number: u8, life: Life, internal: u8, kind: u8, n: usize) -> usize
+    ensures { λ r. ⌜ r ≡ spanOf number (life .gp) internal (life .selected) kind n ⌝ }
+{
+    if number != 0 {
+        return 0;
+    }
+    if events::commands(life, internal, kind, n) {
+        return n;
+    }
+    0
+}
+
+// Where the card locks: no byte is held, no value open, and it is at '87', not selected.
+fn held_as(held: [u8; 18], locks: bool) -> [u8; 18]
+    ensures { λ r. ⌜ r ≡ heldAs held locks ⌝ }
+{
+    if locks {
+        return [0; 18];
+    }
+    held
+}
+
+fn shut_as(p: Running, locks: bool) -> Running
+    ensures { λ r. ⌜ r ≡ shutAs p locks ⌝ }
+{
+    if locks {
+        return steps::with_open(p, Open::Shut);
+    }
+    p
+}
+
+fn locked_as(life: Life, locks: bool) -> Life
+    ensures { λ r. ⌜ r ≡ lockedAs life locks ⌝ }
+{
+    if locks {
+        let mut next = life;
+        next.gp = 0x87;
+        next.selected = false;
+        return next;
+    }
+    life
+}
+
 // Whole records end to end: each is played, and its line written behind the others.
 pub fn enter_all(
-    mut c: Card,
+    c: Card,
     area: &mut [u8],
     records: &[u8],
     mut count: u64,
@@ -31,23 +87,107 @@ pub fn enter_all(
     ensures { λ r. ⌜ Good areaSize (r .card) (now (area .exit)) × (r .count < 100000) × Enters (enteredOf (length (now (records .entry)) / 260) count c (now (area .entry)) (now (records .entry))) (r .card) (now (area .exit)) (r .count) (now (out .entry)) (now (out .exit)) ⌝ }
 {
     let mut answer = [0u8; 64];
+    let chip = c.chip;
+    let capacity = chip.capacity;
+    let mut life = c.life;
+    let mut load = c.loading;
     let mut i: usize = 0;
     let k = records.len() / RECORD_SIZE;
     while i < k {
         let from = i * RECORD_SIZE;
         let r = &records[from..from + RECORD_SIZE];
-        let mut number: u8 = 0;
+        let number = kinds::fault_in(r);
+        let p1 = r[1];
+        let stop = DATA_PLACE + bytes::wide(r[3]);
+        let d = &r[DATA_PLACE..stop];
+        let n = span(number, life, load.running.internal, r[0], d.len());
+        let mut at: usize = 0;
+        let mut end = End::Done;
+        while at < n {
+            let p = load.running;
+            let tag = walk::wanted(p, d, at);
+            let sfi = (tag / 256) as u8;
+            let nn = (tag % 256) as u8;
+            let mut spot = Spot::Nowhere;
+            let mut base: usize = 0;
+            let mut j = places::scan_from(sfi, load.count);
+            while j < load.count {
+                let f = load.files[j];
+                if f.sfi == sfi {
+                    spot = places::spot_in(f, base, nn);
+                    j = load.count;
+                } else {
+                    base += sizes::size_of(f);
+                    j += 1;
+                }
+            }
+            let s = walk::step_at(spot, p, capacity, p1, d, at);
+            let next = s.running;
+            load.running = next;
+            let course = s.course;
+            match course {
+                Course::Lays {
+                    to,
+                    start,
+                    end: stop,
+                } => {
+                    slices::lay(&mut area[to..], &d[start..stop]);
+                    at = stop;
+                }
+                Course::Keeps {
+                    row,
+                    start,
+                    end: stop,
+                } => {
+                    load = content::kept_as(load, capacity, row, &d[start..stop]);
+                    at = stop;
+                }
+                Course::Feeds(start) => {
+                    let t = feed::table_fed(load, d, start);
+                    load = t.load;
+                    let verdict = t.verdict;
+                    match verdict {
+                        Verdict::Passes(to) => {
+                            at = to;
+                        }
+                        Verdict::Refuses(w) => {
+                            end = End::Failed(w);
+                            at = n;
+                        }
+                    }
+                }
+                Course::Asked(t) => {
+                    end = End::Asked(t);
+                    at = n;
+                }
+                Course::Failed(w) => {
+                    end = End::Failed(w);
+                    at = n;
+                }
+            }
+        }
         let mut word: u16 = 0x0000;
-        if kinds::is_brief(c, r) {
-            let x = brief::lived(c, area, &mut answer, r);
+        if n != 0 {
+            let x = load::settled(end, load.running, p1);
             word = x.word;
-            let life = x.life;
-            c.life = life;
-        } else {
-            let x = loading::loaded(c, area, &mut answer, r);
-            number = x.number;
+            let next = x.running;
+            load.running = next;
+            let held = held_as(load.held, x.locks);
+            load.held = held;
+            life = locked_as(life, x.locks);
+        } else if number == 0 {
+            let card = Card {
+                chip: chip,
+                life: life,
+                loading: load,
+            };
+            let x = events::lived(card, area, &mut answer, r[0], p1, d);
             word = x.word;
-            c = x.card;
+            life = x.life;
+            let shut = shut_as(load.running, x.locks);
+            load.running = shut;
+            let held = held_as(load.held, x.locks);
+            load.held = held;
         }
         count = (count + 1) % NUMBERS;
         lines::put_line(
@@ -57,14 +197,18 @@ pub fn enter_all(
             r[0],
             number,
             word,
-            c.life.gp,
-            c.loading.internal,
-            c.loading.rows,
+            life.gp,
+            load.running.internal,
+            load.running.rows,
         );
         i += 1;
     }
     Entered {
-        card: c,
+        card: Card {
+            chip: chip,
+            life: life,
+            loading: load,
+        },
         count: count,
     }
 }

@@ -1,35 +1,47 @@
 -- The tags of records, '0100' to '1EFF', are those of row 11, whose values span.
 use Prim.Native.Nat.{ℕ, _≤_}
-use mathlib.Core.Path.{_≡_, refl, ap, sym, _∙_}
-use mathlib.Core.Bool.{Bool, true, false, _&&_, false≢true}
+use mathlib.Core.Path.{_≡_, refl, ap}
+use mathlib.Core.Bool.{Bool, true, false, cond, _&&_, false≢true}
 use native.Mathlib.Omega.{arith}
-use lib.Dec.{leb}
+use lib.Dec.{eqb, leb}
 use borrow.Author.Tests.{le-leb, lt-leb, leb-true}
 use Rattle.model.specs.Rows.{rowAt, rowOf, rowFrom, rowTable}
 
+-- every other row's tag lies above them
+above : (tag t : ℕ) → tag ≤ 0x1EFF → leb 0x2000 t ≡ true → leb t tag ≡ false
+above tag t h e = let g = leb-true 0x2000 t e in lt-leb t tag (omega arith)
+
 pub record-row : (tag : ℕ) → 0x0100 ≤ tag → tag ≤ 0x1EFF → rowOf tag ≡ 11
 unfolding rowOf rowFrom rowTable
-record-row tag h g =
-    let p : leb 0x0100 tag ≡ true = le-leb _ _ h in
-    let q : leb tag 0x1EFF ≡ true = le-leb _ _ g in
-    let e1 : leb 0x9484 tag ≡ false = lt-leb 0x9484 tag (omega arith) in
-    let e2 : leb 0x2000 tag ≡ false = lt-leb 0x2000 tag (omega arith) in
-    let e3 : leb 0x2100 tag ≡ false = lt-leb 0x2100 tag (omega arith) in
-    let e4 : leb 0x2200 tag ≡ false = lt-leb 0x2200 tag (omega arith) in
-    let e5 : leb 0x3100 tag ≡ false = lt-leb 0x3100 tag (omega arith) in
-    let e6 : leb 0x3800 tag ≡ false = lt-leb 0x3800 tag (omega arith) in
-    let e7 : leb 0x4101 tag ≡ false = lt-leb 0x4101 tag (omega arith) in
-    let e8 : leb 0x4102 tag ≡ false = lt-leb 0x4102 tag (omega arith) in
-    let e9 : leb 0x4103 tag ≡ false = lt-leb 0x4103 tag (omega arith) in
-    let e10 : leb 0x4104 tag ≡ false = lt-leb 0x4104 tag (omega arith) in
-    rw (e1, e2, e3, e4, e5, e6, e7, e8, e9, e10, p, q)
+record-row tag h g = simp (above, le-leb)
 
 both : (a b : Bool) → (a && b) ≡ true → (a ≡ true) × (b ≡ true)
 both true b e = (refl, e)
 both false b e = absurd (false≢true e)
 
-pub record-spans : (tag : ℕ) → (leb 0x0100 tag && leb tag 0x1EFF) ≡ true → rowAt (rowOf tag) .spans ≡ true
-unfolding rowAt rowTable
-record-spans tag e =
-    let t = both (leb 0x0100 tag) (leb tag 0x1EFF) e in
-    ap (λ (r : ℕ). rowAt r .spans) (record-row tag (leb-true 0x0100 tag (t .0)) (leb-true tag 0x1EFF (t .1)))
+module _ (tag : ℕ) (e : (leb 0x0100 tag && leb tag 0x1EFF) ≡ true) where
+  in-row-11 : rowOf tag ≡ 11
+  in-row-11 =
+      let t = both (leb 0x0100 tag) (leb tag 0x1EFF) e in
+      record-row tag (leb-true 0x0100 tag (t .0)) (leb-true tag 0x1EFF (t .1))
+
+  pub record-spans : rowAt (rowOf tag) .spans ≡ true
+  unfolding rowAt rowTable
+  record-spans = ap (λ (r : ℕ). rowAt r .spans) in-row-11
+
+choice-eqb : (b : Bool) (x y : ℕ) → eqb (cond b x y) 11 ≡ cond b (eqb x 11) (eqb y 11)
+choice-eqb true x y = refl
+choice-eqb false x y = refl
+
+choice-same : (b : Bool) → cond b false false ≡ false
+choice-same true = refl
+choice-same false = refl
+
+-- they, and no others
+by-test : (tag : ℕ) (b : Bool) → (leb 0x0100 tag && leb tag 0x1EFF) ≡ b → b ≡ eqb (rowOf tag) 11
+unfolding rowOf rowFrom rowTable
+by-test tag true e = rw (in-row-11 tag e)
+by-test tag false e = simp (choice-eqb, choice-same, e)
+
+pub record-test : (tag : ℕ) → (leb 0x0100 tag && leb tag 0x1EFF) ≡ eqb (rowOf tag) 11
+record-test tag = by-test tag _ refl

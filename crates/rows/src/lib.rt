@@ -2,8 +2,9 @@
 use model::Row;
 ghost use mathlib.Core.Path.{_≡_};
 ghost use Prim.Native.Nat.{_+_, _-_, _≤_, _<_};
+ghost use lib.Dec.{eqb};
 ghost use lib.ListN.{take};
-ghost use Rattle.model.specs.Rows.{rowAt, rowOf, inRow, rowTable, missingFrom, mandatoryMissing};
+ghost use Rattle.model.specs.Rows.{rowAt, rowOf, rowTable, missingFrom, mandatoryMissing};
 ghost use Rattle.rows.specs.Lacking.{lacking};
 
 const ROW_COUNT: usize = 11;
@@ -16,137 +17,186 @@ const DESCRIPTOR_SIZE: usize = 18;
 
 const TABLE_ROOM: usize = 558;
 
-const ROWS: [Row; 11] = [
-    Row {
-        first: 0x9484,
-        last: 0x9484,
-        mandatory: true,
-        spans: false,
-        least: 0,
-        most: 0,
-        step: 1,
-    },
-    Row {
-        first: 0x2000,
-        last: 0x2000,
-        mandatory: true,
-        spans: false,
-        least: 8,
-        most: 8,
-        step: 1,
-    },
-    Row {
-        first: 0x2100,
-        last: 0x2100,
-        mandatory: true,
-        spans: false,
-        least: 7,
-        most: 7,
-        step: 1,
-    },
-    Row {
-        first: 0x2200,
-        last: 0x2200,
-        mandatory: false,
-        spans: false,
-        least: 3,
-        most: 3,
-        step: 1,
-    },
-    Row {
-        first: 0x3100,
-        last: 0x3100,
-        mandatory: true,
-        spans: true,
-        least: DESCRIPTOR_SIZE,
-        most: TABLE_ROOM,
-        step: DESCRIPTOR_SIZE,
-    },
-    Row {
-        first: 0x3800,
-        last: 0x3800,
-        mandatory: true,
-        spans: false,
-        least: 1,
-        most: SECRET_ROOM,
-        step: 1,
-    },
-    Row {
-        first: 0x4101,
-        last: 0x4101,
-        mandatory: true,
-        spans: false,
-        least: 1,
-        most: SECRET_ROOM,
-        step: 1,
-    },
-    Row {
-        first: 0x4102,
-        last: 0x4102,
-        mandatory: true,
-        spans: false,
-        least: 1,
-        most: SECRET_ROOM,
-        step: 1,
-    },
-    Row {
-        first: 0x4103,
-        last: 0x4103,
-        mandatory: true,
-        spans: false,
-        least: 1,
-        most: SECRET_ROOM,
-        step: 1,
-    },
-    Row {
-        first: 0x4104,
-        last: 0x4104,
-        mandatory: false,
-        spans: false,
-        least: 1,
-        most: SECRET_ROOM,
-        step: 1,
-    },
-    Row {
-        first: 0x0100,
-        last: 0x1EFF,
-        mandatory: false,
-        spans: true,
-        least: 0,
-        most: LONGEST,
-        step: 1,
-    },
-];
+// The tags.
+const CHALLENGE_TAG: u16 = 0x9484;
+
+const SERIAL_TAG: u16 = 0x2000;
+
+const STARTUP_TAG: u16 = 0x2100;
+
+const COUNTER_TAG: u16 = 0x2200;
+
+const TABLE_TAG: u16 = 0x3100;
+
+const ACTIVATION_TAG: u16 = 0x3800;
+
+const ISSUER_KEY_TAG: u16 = 0x4101;
+
+const LOAD_KEY_TAG: u16 = 0x4102;
+
+const DEBIT_KEY_TAG: u16 = 0x4103;
+
+const PIN_TAG: u16 = 0x4104;
+
+const FIRST_RECORD: u16 = 0x0100;
+
+const LAST_RECORD: u16 = 0x1EFF;
+
+const CHALLENGE: Row = Row {
+    first: CHALLENGE_TAG,
+    last: CHALLENGE_TAG,
+    mandatory: true,
+    spans: false,
+    least: 0,
+    most: 0,
+    step: 1,
+};
+
+const SERIAL: Row = Row {
+    first: SERIAL_TAG,
+    last: SERIAL_TAG,
+    mandatory: true,
+    spans: false,
+    least: 8,
+    most: 8,
+    step: 1,
+};
+
+const STARTUP: Row = Row {
+    first: STARTUP_TAG,
+    last: STARTUP_TAG,
+    mandatory: true,
+    spans: false,
+    least: 7,
+    most: 7,
+    step: 1,
+};
+
+const COUNTER: Row = Row {
+    first: COUNTER_TAG,
+    last: COUNTER_TAG,
+    mandatory: false,
+    spans: false,
+    least: 3,
+    most: 3,
+    step: 1,
+};
+
+const TABLE: Row = Row {
+    first: TABLE_TAG,
+    last: TABLE_TAG,
+    mandatory: true,
+    spans: true,
+    least: DESCRIPTOR_SIZE,
+    most: TABLE_ROOM,
+    step: DESCRIPTOR_SIZE,
+};
+
+const ACTIVATION: Row = Row {
+    first: ACTIVATION_TAG,
+    last: ACTIVATION_TAG,
+    mandatory: true,
+    spans: false,
+    least: 1,
+    most: SECRET_ROOM,
+    step: 1,
+};
+
+const ISSUER_KEY: Row = Row {
+    first: ISSUER_KEY_TAG,
+    last: ISSUER_KEY_TAG,
+    mandatory: true,
+    spans: false,
+    least: 1,
+    most: SECRET_ROOM,
+    step: 1,
+};
+
+const LOAD_KEY: Row = Row {
+    first: LOAD_KEY_TAG,
+    last: LOAD_KEY_TAG,
+    mandatory: true,
+    spans: false,
+    least: 1,
+    most: SECRET_ROOM,
+    step: 1,
+};
+
+const DEBIT_KEY: Row = Row {
+    first: DEBIT_KEY_TAG,
+    last: DEBIT_KEY_TAG,
+    mandatory: true,
+    spans: false,
+    least: 1,
+    most: SECRET_ROOM,
+    step: 1,
+};
+
+const PIN: Row = Row {
+    first: PIN_TAG,
+    last: PIN_TAG,
+    mandatory: false,
+    spans: false,
+    least: 1,
+    most: SECRET_ROOM,
+    step: 1,
+};
+
+const RECORDS: Row = Row {
+    first: FIRST_RECORD,
+    last: LAST_RECORD,
+    mandatory: false,
+    spans: true,
+    least: 0,
+    most: LONGEST,
+    step: 1,
+};
 
 // A row's constants.
 pub fn row_at(r: usize) -> Row
     requires { ⌜ (1 ≤ r) × (r ≤ 11) ⌝ }
     ensures { λ x. ⌜ x ≡ rowAt r ⌝ }
 {
-    ROWS[r - 1]
-}
-
-fn has_tag(row: Row, tag: u16) -> bool
-    ensures { λ x. ⌜ x ≡ inRow tag row ⌝ }
-{
-    if row.first <= tag {
-        return tag <= row.last;
+    match r {
+        1 => CHALLENGE,
+        2 => SERIAL,
+        3 => STARTUP,
+        4 => COUNTER,
+        5 => TABLE,
+        6 => ACTIVATION,
+        7 => ISSUER_KEY,
+        8 => LOAD_KEY,
+        9 => DEBIT_KEY,
+        10 => PIN,
+        _ => RECORDS,
     }
-    false
 }
 
 // The row of a tag; 0: unknown.
 pub fn row_of(tag: u16) -> usize
     ensures { λ r. ⌜ (r ≡ rowOf tag) × (r ≤ 11) ⌝ }
 {
-    let mut i: usize = 0;
-    while i < ROW_COUNT {
-        if has_tag(row_at(i + 1), tag) {
-            return i + 1;
-        }
-        i += 1;
+    match tag {
+        CHALLENGE_TAG => 1,
+        SERIAL_TAG => 2,
+        STARTUP_TAG => 3,
+        COUNTER_TAG => 4,
+        TABLE_TAG => 5,
+        ACTIVATION_TAG => 6,
+        ISSUER_KEY_TAG => 7,
+        LOAD_KEY_TAG => 8,
+        DEBIT_KEY_TAG => 9,
+        PIN_TAG => 10,
+        FIRST_RECORD..=LAST_RECORD => 11,
+        _ => 0,
     }
-    0
+}
+
+// Whether a tag is of the records' row.
+pub fn is_record(tag: u16) -> bool
+    ensures { λ r. ⌜ r ≡ eqb (rowOf tag) 11 ⌝ }
+{
+    FIRST_RECORD <= tag && tag <= LAST_RECORD
 }
 
 // Row k + 1 is mandatory and not taken.

@@ -1,107 +1,95 @@
 // One grouping, by rules a to h; `values` has f to h.
 use model::Head;
 use model::Header;
-use model::Loading;
+use model::Running;
 use model::Spot;
 use model::Verdict;
 use steps::Step;
 ghost use mathlib.Core.Path.{_≡_};
 ghost use mathlib.Core.Bool.{true};
+ghost use mathlib.Core.List.{List};
 ghost use lib.Dec.{eqb};
-ghost use Prim.Native.Nat.{_+_, _≤_, _<_};
+ghost use Prim.Native.Nat.{ℕ, _+_, _≤_, _<_};
 ghost use lib.ListN.{length, drop};
-ghost use Rattle.model.specs.declared.Open.the-variants.{Shut};
-ghost use Rattle.model.specs.Loads.{fileList};
-ghost use Rattle.model.specs.Rules.{roomOf, grouping};
-ghost use Rattle.steps.specs.Steps.{stateOf, stepped, Sure};
-ghost use Rattle.records.specs.Steps.{fromE, fromD, fromC, fromB, Dued};
+ghost use Rattle.model.specs.declared.Loading.{Loading};
+ghost use Rattle.model.specs.Rules.{grouping};
+ghost use Rattle.steps.specs.Stages.{fromE, fromD, fromC, fromB};
+ghost use Rattle.steps.specs.Steps.{on, Judges, Within, Stands, Dued};
+ghost use Rattle.rules.specs.Rooms.{roomSpot, Placed};
 
 const RECORD_ROW: usize = 11;
 
-// Rule e: the most bytes that the value may have.
-pub fn room_of(l: Loading, row: usize, tag: u16) -> Verdict
-    requires { ⌜ (1 ≤ row) × (row ≤ 11) × (l .count ≤ 31) ⌝ }
-    ensures { λ v. ⌜ v ≡ roomOf (fileList l) row tag ⌝ }
+// Rule e: where a record lies, and the most bytes that the value may have.
+pub fn room_of(spot: Spot, row: usize) -> Spot
+    requires { ⌜ (1 ≤ row) × (row ≤ 11) ⌝ }
+    ensures { λ r. ⌜ r ≡ roomSpot spot row ⌝ }
 {
     if row == RECORD_ROW {
-        let spot = places::spot_at(l, tag);
-        match spot {
-            Spot::Nowhere => {
-                return Verdict::Refuses(0x6A88);
-            }
-            Spot::At { base: _, size } => {
-                return Verdict::Passes(size);
-            }
-        }
+        return spot;
     }
     let x = rows::row_at(row);
-    Verdict::Passes(x.most)
+    Spot::At {
+        base: 0,
+        size: x.most,
+    }
 }
 
-fn from_e(
-    l: Loading,
-    area: &mut [u8],
-    capacity: u8,
-    row: usize,
-    h: Head,
-    d: &[u8],
-    at: usize,
-) -> Step
-    requires { ⌜ Sure l (now area) × (l .pending ≡ Shut) × Dued (stateOf l (now area)) h row × (at + h .size ≤ length (now d)) ⌝ }
-    ensures { λ r. ⌜ stepped r (now (d .entry)) (now (area .exit)) ≡ fromE capacity row h (drop at (now (d .entry))) (stateOf l (now (area .entry))) ⌝ }
+fn from_e(spot: Spot, p: Running, capacity: u8, row: usize, h: Head, d: &[u8], at: usize) -> Step
+    requires { ⌜ (1 ≤ row) × (row ≤ 11) × Within spot × (1 ≤ h .size) × (at + h .size ≤ length (now d)) ⌝ }
+    ensures { λ r. ⌜ ((l : Loading) (a : List ℕ) → Dued p spot (h .tag) row l a → Judges capacity r (now (d .entry)) at l a (fromE capacity row h (drop at (now (d .entry))) (on p l a))) ⌝ }
 {
-    let verdict = room_of(l, row, h.tag);
-    match verdict {
-        Verdict::Passes(room) => values::from_f(l, area, capacity, row, room, h, d, at),
-        Verdict::Refuses(w) => steps::failed_by(w, l),
+    let room = room_of(spot, row);
+    match room {
+        Spot::At { base, size } => values::from_f(p, capacity, row, base, size, h, d, at),
+        Spot::Nowhere => steps::failed_by(0x6A88, p),
     }
 }
 
 // Rule d and what follows.
-fn from_d(l: Loading, area: &mut [u8], capacity: u8, h: Head, d: &[u8], at: usize) -> Step
-    requires { ⌜ Sure l (now area) × (l .pending ≡ Shut) × (eqb (l .internal) 0x5A ≡ true) × (at + h .size ≤ length (now d)) ⌝ }
-    ensures { λ r. ⌜ stepped r (now (d .entry)) (now (area .exit)) ≡ fromD capacity h (drop at (now (d .entry))) (stateOf l (now (area .entry))) ⌝ }
+fn from_d(spot: Spot, p: Running, capacity: u8, h: Head, d: &[u8], at: usize) -> Step
+    requires { ⌜ Within spot × (1 ≤ h .size) × (at + h .size ≤ length (now d)) ⌝ }
+    ensures { λ r. ⌜ ((l : Loading) (a : List ℕ) → eqb (p .internal) 0x5A ≡ true → Stands p spot (h .tag) l a → Judges capacity r (now (d .entry)) at l a (fromD capacity h (drop at (now (d .entry))) (on p l a))) ⌝ }
 {
-    let verdict = due::due_row(l.rows, l.last, h.tag);
+    let verdict = due::due_row(p.rows, p.last, h.tag);
     match verdict {
-        Verdict::Passes(row) => from_e(l, area, capacity, row, h, d, at),
-        Verdict::Refuses(w) => steps::failed_by(w, l),
+        Verdict::Passes(row) => from_e(spot, p, capacity, row, h, d, at),
+        Verdict::Refuses(w) => steps::failed_by(w, p),
     }
 }
 
 // Rule c and what follows: the state becomes '5A' before any later check.
-fn from_c(l: Loading, area: &mut [u8], capacity: u8, h: Head, d: &[u8], at: usize) -> Step
-    requires { ⌜ Sure l (now area) × (l .pending ≡ Shut) × (at + h .size ≤ length (now d)) ⌝ }
-    ensures { λ r. ⌜ stepped r (now (d .entry)) (now (area .exit)) ≡ fromC capacity h (drop at (now (d .entry))) (stateOf l (now (area .entry))) ⌝ }
+fn from_c(spot: Spot, p: Running, capacity: u8, h: Head, d: &[u8], at: usize) -> Step
+    requires { ⌜ Within spot × (1 ≤ h .size) × (at + h .size ≤ length (now d)) ⌝ }
+    ensures { λ r. ⌜ ((l : Loading) (a : List ℕ) → Stands p spot (h .tag) l a → Judges capacity r (now (d .entry)) at l a (fromC capacity h (drop at (now (d .entry))) (on p l a))) ⌝ }
 {
-    if l.internal == 0xA5 {
-        return steps::failed_by(0x6985, l);
+    if p.internal == 0xA5 {
+        return steps::failed_by(0x6985, p);
     }
-    let mut next = l;
+    let mut next = p;
     next.internal = 0x5A;
-    from_d(next, area, capacity, h, d, at)
+    from_d(spot, next, capacity, h, d, at)
 }
 
 // Rules b to h of a grouping whose header is whole; it begins at `at`.
-fn from_b(l: Loading, area: &mut [u8], capacity: u8, p1: u8, h: Head, d: &[u8], at: usize) -> Step
-    requires { ⌜ Sure l (now area) × (l .pending ≡ Shut) × (at < length (now d)) × (at + h .size ≤ length (now d)) ⌝ }
-    ensures { λ r. ⌜ stepped r (now (d .entry)) (now (area .exit)) ≡ fromB capacity (length (now (d .entry))) p1 h (drop at (now (d .entry))) (stateOf l (now (area .entry))) ⌝ }
+fn from_b(spot: Spot, p: Running, capacity: u8, p1: u8, h: Head, d: &[u8], at: usize) -> Step
+    requires { ⌜ Within spot × (at < length (now d)) × (1 ≤ h .size) × (at + h .size ≤ length (now d)) ⌝ }
+    ensures { λ r. ⌜ ((l : Loading) (a : List ℕ) → Stands p spot (h .tag) l a → Judges capacity r (now (d .entry)) at l a (fromB capacity (length (now (d .entry))) p1 h (drop at (now (d .entry))) (on p l a))) ⌝ }
 {
     let tag = h.tag;
     if header::is_query(tag) {
-        return queries::queried(l, p1, h, d.len(), at);
+        return queries::queried(p, p1, h, d.len(), at);
     }
-    from_c(l, area, capacity, h, d, at)
+    from_c(spot, p, capacity, h, d, at)
 }
 
-// One grouping, by rules a to h; it begins at `at`.
-pub fn grouping_at(l: Loading, area: &mut [u8], capacity: u8, p1: u8, d: &[u8], at: usize) -> Step
-    requires { ⌜ Sure l (now area) × (l .pending ≡ Shut) × (at < length (now d)) ⌝ }
-    ensures { λ r. ⌜ stepped r (now (d .entry)) (now (area .exit)) ≡ grouping capacity (length (now (d .entry))) p1 (drop at (now (d .entry))) (stateOf l (now (area .entry))) ⌝ }
+// One grouping, by rules a to h; it begins at `at`, and its record, if it is one, lies at `spot`.
+pub fn grouping_at(spot: Spot, p: Running, capacity: u8, p1: u8, d: &[u8], at: usize) -> Step
+    requires { ⌜ Within spot × (at < length (now d)) ⌝ }
+    ensures { λ r. ⌜ ((l : Loading) (a : List ℕ) → Placed p spot (drop at (now (d .entry))) l a → Judges capacity r (now (d .entry)) at l a (grouping capacity (length (now (d .entry))) p1 (drop at (now (d .entry))) (on p l a))) ⌝ }
 {
     let header = header::header_at(d, at);
     match header {
-        Header::Whole(h) => from_b(l, area, capacity, p1, h, d, at),
-        Header::Torn => steps::failed_by(0x6A80, l),
+        Header::Whole(h) => from_b(spot, p, capacity, p1, h, d, at),
+        Header::Torn => steps::failed_by(0x6A80, p),
     }
 }

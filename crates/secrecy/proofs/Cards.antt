@@ -38,10 +38,10 @@ module _ (z : Hiding) where
     alike-cards = record {
       chip = ap (λ (x : Card). x .chip) e;
       life = ap (λ (x : Card). x .life) e;
-      internal = ap (λ (x : Card). x .loading .internal) e;
-      rows = ap (λ (x : Card). x .loading .rows) e;
-      last = ap (λ (x : Card). x .loading .last) e;
-      pending = ap (λ (x : Card). x .loading .pending) e;
+      internal = ap (λ (x : Card). x .loading .running .internal) e;
+      rows = ap (λ (x : Card). x .loading .running .rows) e;
+      last = ap (λ (x : Card). x .loading .running .last) e;
+      pending = ap (λ (x : Card). x .loading .running .pending) e;
       held = ap (λ (x : Card). x .loading .held) e;
       files = ap (λ (x : Card). x .loading .files) e;
       count = ap (λ (x : Card). x .loading .count) e;

@@ -67,6 +67,6 @@ module _ (z : Hiding) where
       → command capacity p1 (view z (marksCommand capacity p1 b s) b) (veilState z s) ≡ veilResult z (command capacity p1 b s)
   unfolding command marksCommand
   hides-command capacity p1 b s =
-      let ms = marksBy (seens (missingIn (s .load .pending))) (λ left t. marksWalk (length left) capacity (length b) p1 left t) (fed b s) in
+      let ms = marksBy (seens (missingIn (s .load .running .pending))) (λ left t. marksWalk (length left) capacity (length b) p1 left t) (fed b s) in
       rw (length-view z ms b, hides-fed z (λ left t. marksWalk (length left) capacity (length b) p1 left t) b s)
       (hides-rest capacity (length b) p1 (fed b s))

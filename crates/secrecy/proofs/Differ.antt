@@ -143,9 +143,9 @@ agree-command : (capacity p1 : ℕ) (b e : List ℕ) (s t : State) → veilState
     → marksCommand capacity p1 e t ≡ marksCommand capacity p1 b s
 unfolding marksCommand
 agree-command capacity p1 b e s t states d =
-    let m = missingIn (s .load .pending) in
+    let m = missingIn (s .load .running .pending) in
     let later : List ℕ → State → List Mark = λ left u. marksWalk (length left) capacity (length b) p1 left u in
-    let m′ : missingIn (t .load .pending) ≡ m = ap (λ (u : State). missingIn (u .load .pending)) (sym states) in
+    let m′ : missingIn (t .load .running .pending) ≡ m = ap (λ (u : State). missingIn (u .load .running .pending)) (sym states) in
     let passes : goes (fed e t) ≡ goes (fed b s) =
     sym (goes-fed every e e t refl) ∙ ap (λ (u : State). goes (fed e u)) (sym states) ∙ goes-fed every e b s (same-open m later b e (fed b s) d) in
     rw (m′, ← (d .size))

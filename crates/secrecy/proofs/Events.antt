@@ -31,21 +31,21 @@ chosen false g7 x y o = refl
 abbrev pub storing : ℕ → List ℕ → Event
 storing p1 d = record { kind = 2; p1 = p1; bytes = d }
 
-pub stores : (p1 : ℕ) (d : List ℕ) (c : Card) (a : List ℕ) → (not (eqb (c .loading .internal) 0x5A) || eqb (c .life .gp) 0x07) ≡ true
+pub stores : (p1 : ℕ) (d : List ℕ) (c : Card) (a : List ℕ) → (not (eqb (c .loading .running .internal) 0x5A) || eqb (c .life .gp) 0x07) ≡ true
     → event (storing p1 d) c a ≡ storeData p1 d c a
 unfolding event personalizing otherwise
-stores p1 d c a o = chosen (eqb (c .loading .internal) 0x5A) (eqb (c .life .gp) 0x07) (storeData p1 d c a) (stuck (storing p1 d) c a) o
+stores p1 d c a o = chosen (eqb (c .loading .running .internal) 0x5A) (eqb (c .life .gp) 0x07) (storeData p1 d c a) (stuck (storing p1 d) c a) o
 
 -- the record of a walked STORE DATA
 pub record Walks (r : List ℕ) (c : Card) : Type 0 where
   pub padded : paddedZero r ≡ true
   pub kind : byteAt r 0 ≡ 2
   pub selected : c .life .selected ≡ true
-  pub at-07 : (not (eqb (c .loading .internal) 0x5A) || eqb (c .life .gp) 0x07) ≡ true
+  pub at-07 : (not (eqb (c .loading .running .internal) 0x5A) || eqb (c .life .gp) 0x07) ≡ true
 
 pub walks : (r : List ℕ) (c : Card) → (paddedZero r && walked (eventIn r) c) ≡ true → Walks r c
 walks r c w =
-    let at-07 = not (eqb (c .loading .internal) 0x5A) || eqb (c .life .gp) 0x07 in
+    let at-07 = not (eqb (c .loading .running .internal) 0x5A) || eqb (c .life .gp) 0x07 in
     let form = and-eq-true-iff (paddedZero r) (walked (eventIn r) c) .0 w in
     let place = and-eq-true-iff (eqb (byteAt r 0) 2 && c .life .selected) at-07 .0 (form .1) in
     let store = and-eq-true-iff (eqb (byteAt r 0) 2) (c .life .selected) .0 (place .0) in
@@ -66,7 +66,7 @@ module _ (z : Hiding) where
 
   veil-errs : (w : ℕ) (c : Card) (a : List ℕ) → errs w (veil z c) a ≡ veilReply (errs w c a)
   unfolding errs
-  veil-errs w c a = on (eqb (c .loading .internal) 0x5A)
+  veil-errs w c a = on (eqb (c .loading .running .internal) 0x5A)
     where
       on : (b : Bool) → says w (cond b (locked (veil z c)) (veil z c)) a ≡ veilReply (says w (cond b (locked c) c) a)
       on true = refl
@@ -140,14 +140,14 @@ module _ (z : Hiding) where
   unfolding event personalizing otherwise
   veil-event e c a w = on .same
     where
-      kept-out : eqb (e .kind) 2 ≡ true → (not (eqb (c .loading .internal) 0x5A) || eqb (c .life .gp) 0x07) ≡ true
+      kept-out : eqb (e .kind) 2 ≡ true → (not (eqb (c .loading .running .internal) 0x5A) || eqb (c .life .gp) 0x07) ≡ true
           → Veiled (storeData (e .p1) (e .bytes) c a) (storeData (e .p1) (e .bytes) (veil z c) a)
       kept-out k o =
-          record { same = not-selected (e .p1) (e .bytes) c a (unselected (eqb (e .kind) 2) (c .life .selected) (eqb (c .loading .internal) 0x5A) (eqb (c .life .gp) 0x07) w k o) }
+          record { same = not-selected (e .p1) (e .bytes) c a (unselected (eqb (e .kind) 2) (c .life .selected) (eqb (c .loading .running .internal) 0x5A) (eqb (c .life .gp) 0x07) w k o) }
 
       on : Veiled (event e c a) (event e (veil z c) a)
       on =
-          veiled-if (eqb (c .loading .internal) 0x5A)
+          veiled-if (eqb (c .loading .running .internal) 0x5A)
           (λ i. veiled-if (eqb (c .life .gp) 0x07)
           (λ g. veiled-if (eqb (e .kind) 2) (λ k. kept-out k (rw (i, g))) (λ _. record { same = veil-stuck e (locked c) a }))
           (λ _. record { same = veil-stuck e c a }))
@@ -159,7 +159,7 @@ module _ (z : Hiding) where
           (λ _. veiled-if (eqb (e .kind) 8) (λ _. record { same = veil-unlock c a })
           (λ _. record { same = veil-deselect c a })))))))
 
-  pub hides-event : (p1 : ℕ) (d : List ℕ) (c : Card) (a : List ℕ) → (not (eqb (c .loading .internal) 0x5A) || eqb (c .life .gp) 0x07) ≡ true
+  pub hides-event : (p1 : ℕ) (d : List ℕ) (c : Card) (a : List ℕ) → (not (eqb (c .loading .running .internal) 0x5A) || eqb (c .life .gp) 0x07) ≡ true
       → event (storing p1 (view z (marksCommand (c .chip .capacity) p1 d (stateIn c a)) d)) (veil z c) a ≡ veilReply (event (storing p1 d) c a)
   hides-event p1 d c a o =
       rw (stores p1 d c a o, stores p1 (view z (marksCommand (c .chip .capacity) p1 d (stateIn c a)) d) (veil z c) a o) (hides-store p1 d c a)

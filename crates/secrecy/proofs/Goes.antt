@@ -44,10 +44,10 @@ module _ (z : Hiding) where
       (rw e (veil-table z (take missing b) s)) (λ n t _. refl)
   goes-feeding (Record tag written missing) v b s e = refl
 
-  pub goes-fed : (v b : List ℕ) (s : State) → take (missingIn (s .load .pending)) v ≡ take (missingIn (s .load .pending)) b
+  pub goes-fed : (v b : List ℕ) (s : State) → take (missingIn (s .load .running .pending)) v ≡ take (missingIn (s .load .running .pending)) b
       → goes (fed v (veilState z s)) ≡ goes (fed b s)
   unfolding fed
-  goes-fed v b s e = goes-feeding (s .load .pending) v b s e
+  goes-fed v b s e = goes-feeding (s .load .running .pending) v b s e
 
   goes-spanned : (row : ℕ) (h : Head) (v b : List ℕ) (s : State) → missingIn (openedAs row (h .tag) (h .len)) ≡ h .len → take (h .len) v ≡ take (h .len) b
       → goes (spanned row h v (veilState z s)) ≡ goes (spanned row h b s)
@@ -110,7 +110,7 @@ module _ (z : Hiding) where
     unfolding ruleD dueRow
     goes-d s q =
         by-cond Judged (eqb (rowOf (h .tag)) 0) (λ _. refl)
-        (λ e. by-cond Judged (due (s .load .rows) (s .load .last) (rowOf (h .tag)) (h .tag)) (λ _. goes-e s q e) (λ _. refl))
+        (λ e. by-cond Judged (due (s .load .running .rows) (s .load .running .last) (rowOf (h .tag)) (h .tag)) (λ _. goes-e s q e) (λ _. refl))
       where
         Judged : Verdict → Type 0
         Judged x = goes (thence (judged x (veilState z s)) (λ row. fromE capacity row h v)) ≡ goes (thence (judged x s) (λ row. fromE capacity row h b))

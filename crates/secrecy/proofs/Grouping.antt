@@ -107,7 +107,7 @@ module _ (z : Hiding) (later : List ℕ → State → List Mark) where
   unfolding ruleD dueRow
   hides-d capacity h b s q =
       by-cond Judged (eqb (rowOf (h .tag)) 0) (λ _. unfold view in refl)
-      (λ e. by-cond Judged (due (s .load .rows) (s .load .last) (rowOf (h .tag)) (h .tag)) (λ _. hides-e capacity h b s q e) (λ _. unfold view in refl))
+      (λ e. by-cond Judged (due (s .load .running .rows) (s .load .running .last) (rowOf (h .tag)) (h .tag)) (λ _. hides-e capacity h b s q e) (λ _. unfold view in refl))
     where
       Judged : Verdict → Type 0
       Judged v =

@@ -61,9 +61,9 @@ keeps-feeding (Table held missing) b s =
 keeps-feeding (Record tag written missing) b s =
     keeps-seen missing b (s .load .secrets) (recordBytes tag written missing (take missing b) s) (stays-record tag written missing (take missing b) s)
 
-pub keeps-fed : (b : List ℕ) (s : State) → Keeps (seens (missingIn (s .load .pending))) b (s .load .secrets) (fed b s)
+pub keeps-fed : (b : List ℕ) (s : State) → Keeps (seens (missingIn (s .load .running .pending))) b (s .load .secrets) (fed b s)
 unfolding fed
-keeps-fed b s = keeps-feeding (s .load .pending) b s
+keeps-fed b s = keeps-feeding (s .load .running .pending) b s
 
 keeps-spanned : (row : ℕ) (h : Head) (b : List ℕ) (s : State) → missingIn (openedAs row (h .tag) (h .len)) ≡ h .len
     → Keeps (seens (h .len)) b (s .load .secrets) (spanned row h b s)
@@ -144,7 +144,7 @@ module _ (capacity : ℕ) (h : Head) (b : List ℕ) where
   unfolding ruleD dueRow
   keeps-d s q =
       by-cond Judged (eqb row 0) (λ _. refl)
-      (λ e. by-cond Judged (due (s .load .rows) (s .load .last) row (h .tag)) (λ _. keeps-e s q e) (λ _. refl))
+      (λ e. by-cond Judged (due (s .load .running .rows) (s .load .running .last) row (h .tag)) (λ _. keeps-e s q e) (λ _. refl))
     where
       Judged : Verdict → Type 0
       Judged v = Keeps front b (s .load .secrets) (thence (judged v s) (λ x. fromE capacity x h b))

@@ -46,7 +46,7 @@ walk-kept (suc fuel) capacity n p1 (b ∷ bs) s =
 pub command-kept : (capacity p1 : ℕ) (b : List ℕ) (s : State) → secretsOf (command capacity p1 b s) ≡ keptBy (marksCommand capacity p1 b s) b (s .load .secrets)
 unfolding command marksCommand
 command-kept capacity p1 b s =
-    then-kept (seens (missingIn (s .load .pending))) (λ left t. marksWalk (length left) capacity (length b) p1 left t) b (s .load .secrets) (fed b s)
+    then-kept (seens (missingIn (s .load .running .pending))) (λ left t. marksWalk (length left) capacity (length b) p1 left t) b (s .load .secrets) (fed b s)
     (λ left t. thence (walk (length left) capacity (length b) p1 left t) (λ a. theEnd p1)) (keeps-fed b s)
     (λ left t. stays-thence (walk (length left) capacity (length b) p1 left t) (λ a. theEnd p1) (λ a u. stays-end p1 u) ∙ walk-kept (length left) capacity (length b) p1 left t)
 
@@ -64,7 +64,7 @@ same-if false xs = refl
 
 errs-kept : (w : ℕ) (c : Card) (a : List ℕ) → secretsIn (errs w c a) ≡ c .loading .secrets
 unfolding errs
-errs-kept w c a = on (eqb (c .loading .internal) 0x5A)
+errs-kept w c a = on (eqb (c .loading .running .internal) 0x5A)
   where
     on : (b : Bool) → cond b (locked c) c .loading .secrets ≡ c .loading .secrets
     on true = refl
@@ -132,7 +132,7 @@ deselect-kept c a = refl
 event-kept : (e : Event) (c : Card) (a : List ℕ) → walked e c ≡ false → secretsIn (event e c a) ≡ c .loading .secrets
 unfolding event personalizing otherwise
 event-kept e c a w =
-    by-cond Same (eqb (c .loading .internal) 0x5A)
+    by-cond Same (eqb (c .loading .running .internal) 0x5A)
     (λ i. by-cond Same (eqb (c .life .gp) 0x07)
     (λ g. by-cond Same (eqb (e .kind) 2) (λ k. out k (rw (i, g))) (λ _. stuck-kept e (locked c) a))
     (λ _. stuck-kept e c a))
@@ -147,10 +147,10 @@ event-kept e c a w =
     Same : Reply → Type 0
     Same r = secretsIn r ≡ c .loading .secrets
 
-    out : eqb (e .kind) 2 ≡ true → (not (eqb (c .loading .internal) 0x5A) || eqb (c .life .gp) 0x07) ≡ true → Same (storeData (e .p1) (e .bytes) c a)
+    out : eqb (e .kind) 2 ≡ true → (not (eqb (c .loading .running .internal) 0x5A) || eqb (c .life .gp) 0x07) ≡ true → Same (storeData (e .p1) (e .bytes) c a)
     out k o =
         not-selected (e .p1) (e .bytes) c a
-        (unselected (eqb (e .kind) 2) (c .life .selected) (eqb (c .loading .internal) 0x5A) (eqb (c .life .gp) 0x07) w k o)
+        (unselected (eqb (e .kind) 2) (c .life .selected) (eqb (c .loading .running .internal) 0x5A) (eqb (c .life .gp) 0x07) w k o)
 
 -- THE THEOREM: of a record, the card keeps the marked bytes, each where its mark says, and no other: so the view hides what is kept, and nothing else
 abbrev TurnKept : Card → List ℕ → List ℕ → List Mark → Type 0

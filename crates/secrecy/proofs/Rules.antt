@@ -33,7 +33,7 @@ query-ends n p1 b h s =
     by-cond notWent (aloneAtStart n b h)
     (λ _. by-cond notWent (bit1 p1 && not (bit8 p1))
     (λ _. by-cond notWent (eqb (h .tag) 0x9484)
-    (λ _. by-cond notWent (eqb (s .load .internal) 0xCC && due (s .load .rows) (s .load .last) 1 0x9484) (λ _. tt) (λ _. tt))
+    (λ _. by-cond notWent (eqb (s .load .running .internal) 0xCC && due (s .load .running .rows) (s .load .running .last) 1 0x9484) (λ _. tt) (λ _. tt))
     (λ _. tt))
     (λ _. tt))
     (λ _. tt)
@@ -49,7 +49,7 @@ module _ (z : Hiding) where
   veil-challenged : (s : State) → challenged (veilState z s) ≡ veilResult z (challenged s)
   unfolding challenged
   veil-challenged s =
-      veil-cond z (eqb (s .load .internal) 0xCC && due (s .load .rows) (s .load .last) 1 0x9484) (asked 0x9484 (changed (withTaken 1) s)) (failed 0x6985 s)
+      veil-cond z (eqb (s .load .running .internal) 0xCC && due (s .load .running .rows) (s .load .running .last) 1 0x9484) (asked 0x9484 (changed (withTaken 1) s)) (failed 0x6985 s)
 
   -- rule b reads how many bytes there are, and none of them
   veil-query : (n p1 : ℕ) (v b : List ℕ) (h : Head) (s : State) → length v ≡ length b → query n p1 v h (veilState z s) ≡ veilResult z (query n p1 b h s)
@@ -62,7 +62,7 @@ module _ (z : Hiding) where
 
   pub veil-c : (s : State) → ruleC (veilState z s) ≡ veilResult z (ruleC s)
   unfolding ruleC
-  veil-c s = veil-cond z (eqb (s .load .internal) 0xA5) (failed 0x6985 s) (went 0 (changed (withInternal 0x5A) s))
+  veil-c s = veil-cond z (eqb (s .load .running .internal) 0xA5) (failed 0x6985 s) (went 0 (changed (withInternal 0x5A) s))
 
   pub veil-judged : (v : Verdict) (s : State) → judged v (veilState z s) ≡ veilResult z (judged v s)
   veil-judged (Passes n) s = refl
@@ -100,8 +100,8 @@ module _ (z : Hiding) where
   unfolding tableBytes
   veil-table [] s = refl
   veil-table (b ∷ bs) s =
-      rw (veil-inTable (s .load .pending) b s)
-      (veil-thence z (inTable (s .load .pending) b s) (λ n. tableBytes bs) (λ n t. veil-table bs t))
+      rw (veil-inTable (s .load .running .pending) b s)
+      (veil-thence z (inTable (s .load .running .pending) b s) (λ n. tableBytes bs) (λ n t. veil-table bs t))
 
   -- 'ssnn'
   veil-recordDone : (tag written missing : ℕ) (s : State) → recordDone tag written missing (veilState z s) ≡ veilState z (recordDone tag written missing s)

@@ -80,7 +80,7 @@ stays-thence (failed w s) k e = refl
 pub stays-table : (bs : List ℕ) (s : State) → secretsOf (tableBytes bs s) ≡ s .load .secrets
 unfolding tableBytes
 stays-table [] s = refl
-stays-table (b ∷ bs) s = stays-thence (inTable (s .load .pending) b s) (λ n. tableBytes bs) (λ n t. stays-table bs t) ∙ stays-inTable (s .load .pending) b s
+stays-table (b ∷ bs) s = stays-thence (inTable (s .load .running .pending) b s) (λ n. tableBytes bs) (λ n t. stays-table bs t) ∙ stays-inTable (s .load .running .pending) b s
 
 stays-recordDone : (tag written missing : ℕ) (s : State) → recordDone tag written missing s .load .secrets ≡ s .load .secrets
 unfolding recordDone

@@ -70,6 +70,6 @@ module _ (z : Hiding) (later : List ℕ → State → List Mark) where
       hides-taken {A = ℕ} missing b (went 0 (recordBytes tag written missing (take missing b) s)) (λ v. went 0 (recordBytes tag written missing v (veilState z s)))
       (λ t. t) (ap (λ (t : State). went 0 t) (veil-record z tag written missing (take missing b) s)) (λ t. refl)
 
-  pub hides-fed : (b : List ℕ) (s : State) → Hides (seens (missingIn (s .load .pending))) b (fed b s) (λ v. fed v (veilState z s))
+  pub hides-fed : (b : List ℕ) (s : State) → Hides (seens (missingIn (s .load .running .pending))) b (fed b s) (λ v. fed v (veilState z s))
   unfolding fed
-  hides-fed b s = hides-feeding (s .load .pending) b s
+  hides-fed b s = hides-feeding (s .load .running .pending) b s

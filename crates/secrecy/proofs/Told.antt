@@ -84,7 +84,7 @@ module _ (z : Hiding) where
       (told-by front later (λ left t. rw (length-view z (later left t) left) (told-walk (length left) capacity (length b) p1 left t)) (fed b s))
     where
       front : List Mark
-      front = seens (missingIn (s .load .pending))
+      front = seens (missingIn (s .load .running .pending))
 
       later : List ℕ → State → List Mark
       later left t = marksWalk (length left) capacity (length b) p1 left t

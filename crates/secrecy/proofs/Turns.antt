@@ -97,7 +97,7 @@ module _ (z : Hiding) where
 
   pub veil-sound : (c : Card) → sound (veil z c) ≡ sound c
   unfolding soundWith
-  veil-sound c = rw (veil-secretsOk 0 (c .loading .secrets), veil-fits (c .loading .pending) (c .loading))
+  veil-sound c = rw (veil-secretsOk 0 (c .loading .secrets), veil-fits (c .loading .running .pending) (c .loading))
 
   -- one event, with the numbers that it is refused by
   play-hidden : (c : Card) (a : List ℕ) (room : ℕ) (r : List ℕ) → playOf (veil z c) a room (viewRecord z c a r) ≡ veilTurn z (playOf c a room r)

@@ -18,10 +18,10 @@ secretOf c k = getD (c .loading .secrets) k noSecret
 pub record AlikeCards (z : Hiding) (c d : Card) : Type 0 where
   pub chip : c .chip ≡ d .chip
   pub life : c .life ≡ d .life
-  pub internal : c .loading .internal ≡ d .loading .internal
-  pub rows : c .loading .rows ≡ d .loading .rows
-  pub last : c .loading .last ≡ d .loading .last
-  pub pending : c .loading .pending ≡ d .loading .pending
+  pub internal : c .loading .running .internal ≡ d .loading .running .internal
+  pub rows : c .loading .running .rows ≡ d .loading .running .rows
+  pub last : c .loading .running .last ≡ d .loading .running .last
+  pub pending : c .loading .running .pending ≡ d .loading .running .pending
   pub held : c .loading .held ≡ d .loading .held
   pub files : c .loading .files ≡ d .loading .files
   pub count : c .loading .count ≡ d .loading .count

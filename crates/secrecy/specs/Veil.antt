@@ -26,10 +26,7 @@ veilSecrets z k (x ∷ xs) = veilSecret (z k) x ∷ veilSecrets z (suc k) xs
 
 abbrev pub withSecrets : List Secret → Loading → Loading
 withSecrets xs l = record {
-  internal = l .internal;
-  rows = l .rows;
-  last = l .last;
-  pending = l .pending;
+  running = l .running;
   held = l .held;
   files = l .files;
   count = l .count;

@@ -66,11 +66,11 @@ missingIn (Record tag written missing) = missing
 
 unfoldable pub marksCommand : ℕ → ℕ → List ℕ → State → List Mark
 marksCommand capacity p1 bytes s =
-    marksBy (seens (missingIn (s .load .pending))) (λ left s′. marksWalk (length left) capacity (length bytes) p1 left s′) (fed bytes s)
+    marksBy (seens (missingIn (s .load .running .pending))) (λ left s′. marksWalk (length left) capacity (length bytes) p1 left s′) (fed bytes s)
 
 -- a STORE DATA whose groupings are walked: the card is selected, and not locked in '5A'
 abbrev pub walked : Event → Card → Bool
-walked e c = eqb (e .kind) 2 && c .life .selected && (not (eqb (c .loading .internal) 0x5A) || eqb (c .life .gp) 0x07)
+walked e c = eqb (e .kind) 2 && c .life .selected && (not (eqb (c .loading .running .internal) 0x5A) || eqb (c .life .gp) 0x07)
 
 abbrev pub stateIn : Card → List ℕ → State
 stateIn c a = record { load = c .loading; area = a }

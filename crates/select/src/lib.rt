@@ -45,7 +45,7 @@ pub fn selected_by(c: Card, answer: &mut [u8], d: &[u8]) -> Replied
         let mut next = life;
         next.gp = 0x07;
         next.selected = true;
-        if c.loading.internal == 0xCC {
+        if c.loading.running.internal == 0xCC {
             let n = fci::lay_name_fci(answer, c);
             return Replied {
                 word: 0x9000,

@@ -13,8 +13,8 @@ use Rattle.model.specs.Stored.{areaSize}
 use Rattle.model.specs.Session.{Run, turnOf, recordsIn, after, runFrom}
 use Rattle.soundness.specs.Keeps.{Good}
 use Rattle.soundness.proofs.Sessions.{run-keeps}
-use Rattle.brief.specs.Plays.{Plays}
-use Rattle.brief.proofs.Records.{records-more}
+use Rattle.events.specs.Plays.{Plays}
+use Rattle.events.proofs.Records.{records-more}
 use Rattle.session.specs.Runs.{begun, ranOf, Leaves}
 
 -- two runs of records, the second on what the first left

@@ -14,7 +14,7 @@ use Rattle.model.specs.Stored.{areaSize, recordSize}
 use Rattle.model.specs.Sound.{sound}
 use Rattle.model.specs.Session.{runOf, turnOf}
 use Rattle.soundness.specs.Keeps.{Good}
-use Rattle.brief.specs.Plays.{Plays}
+use Rattle.events.specs.Plays.{Plays}
 use Rattle.session.specs.Runs.{ranOf, Leaves, Runs, Checked}
 use Rattle.session.proofs.Records.{ran-none, ran-words, leaves-none, leaves-good, leaves-more}
 

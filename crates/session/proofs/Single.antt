@@ -7,7 +7,7 @@ use Rattle.model.specs.declared.Played.{Played}
 use Rattle.model.specs.declared.Ran.{Ran}
 use Rattle.model.specs.Rows.{takenOf}
 use Rattle.model.specs.Session.{Turn, Session, Shown}
-use Rattle.brief.specs.Plays.{Plays}
+use Rattle.events.specs.Plays.{Plays}
 use Rattle.session.specs.Runs.{Runs}
 use Rattle.showing.specs.Shows.{Shows}
 
@@ -29,5 +29,5 @@ pub shown-single : (s : Shown) (number number′ : ℕ) (bytes bytes′ : List �
 shown-single s number number′ bytes bytes′ p q = (p .numbers ∙ sym (q .numbers), p .shows ∙ sym (q .shows))
 
 -- the number of rows
-pub taken-single : (c : Card) (n n′ : ℕ) → n ≡ takenOf (c .loading .rows) → n′ ≡ takenOf (c .loading .rows) → n ≡ n′
+pub taken-single : (c : Card) (n n′ : ℕ) → n ≡ takenOf (c .loading .running .rows) → n′ ≡ takenOf (c .loading .running .rows) → n ≡ n′
 taken-single c n n′ p q = p ∙ sym q

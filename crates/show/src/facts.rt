@@ -125,7 +125,8 @@ fn write_pending(good: &mut bool, pending: Open) {
 fn write_kept(good: &mut bool, l: Loading) {
     let serial = l.serial;
     let startup = l.startup;
-    let pending = l.pending;
+    let running = l.running;
+    let pending = running.pending;
     write_hex(good, b"\n  serial number   '", &serial, b"'");
     write_startup(good, startup);
     write_form(
@@ -204,9 +205,9 @@ fn write_lengths(good: &mut bool, secrets: [Secret; 5]) {
 // The rows taken with their count, and the secrets' lengths.
 fn write_loaded(good: &mut bool, l: Loading) {
     let secrets = l.secrets;
-    let taken = sets::count(l.rows);
+    let taken = sets::count(l.running.rows);
     write_form(good, b"\n\nRows taken: #", taken as u64, 0, 0);
-    write_rows(good, l.rows, l.last);
+    write_rows(good, l.running.rows, l.running.last);
     write(good, b"\n\nSecrets, their lengths only");
     write_lengths(good, secrets);
 }
@@ -216,7 +217,7 @@ pub fn write_facts(good: &mut bool, c: Card, count: u64) {
     let name = life.name;
     let l = c.loading;
     write_name(good, name, life.namelen);
-    write_states(good, life, l.internal);
+    write_states(good, life, l.running.internal);
     write_events(good, count);
     write_kept(good, l);
     write_loaded(good, l);

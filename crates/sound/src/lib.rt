@@ -71,17 +71,18 @@ fn table_open(o: Open) -> bool
 fn table_placed(l: Loading, g: u8) -> bool
     ensures { λ r. ⌜ r ≡ tablePlaced l g ⌝ }
 {
-    let o = l.pending;
+    let running = l.running;
+    let o = running.pending;
     if l.count == 0 {
         return true;
     }
-    if sets::is_taken(l.rows, TABLE_ROW) {
+    if sets::is_taken(l.running.rows, TABLE_ROW) {
         return true;
     }
     if table_open(o) {
         return true;
     }
-    if l.internal == 0x5A {
+    if l.running.internal == 0x5A {
         return g == 0x87;
     }
     false
@@ -107,7 +108,7 @@ fn load_ok(l: Loading, g: u8) -> bool
     ensures { λ r. ⌜ r ≡ loadPart l g ⌝ }
 {
     let secrets = l.secrets;
-    if rows_ok(l.rows, g) {
+    if rows_ok(l.running.rows, g) {
         if table_placed(l, g) {
             return secrets_ok(secrets);
         }
@@ -125,7 +126,7 @@ pub fn is_sound(c: Card) -> bool
     if places(files) < l.count {
         return false;
     }
-    if clauses::life_ok(f, l.internal) {
+    if clauses::life_ok(f, l.running.internal) {
         if load_ok(l, f.gp) {
             if opened::value_ok(l, f.gp) {
                 return descriptors_ok(l);

@@ -33,33 +33,33 @@ locked-internal true b c e = refl
 locked-internal false true c e = refl
 locked-internal false false c e = absurd (false≢true e)
 
-locked-sound : (c : Card) → sound c ≡ true → c .life .gp ≡ 0x07 → eqb (c .loading .internal) 0x5A ≡ true → sound (locked c) ≡ true
+locked-sound : (c : Card) → sound c ≡ true → c .life .gp ≡ 0x07 → eqb (c .loading .running .internal) 0x5A ≡ true → sound (locked c) ≡ true
 locked-sound c e g i =
     let l = c .loading in
     let p = sound-parts (c .life) l e in
     sound-of-parts (locked c .life) (locked c .loading) (record {
       gp = refl;
-      internal = locked-internal (eqb (l .internal) 0xCC) (eqb (l .internal) 0x5A) (eqb (l .internal) 0xA5) i;
+      internal = locked-internal (eqb (l .running .internal) 0xCC) (eqb (l .running .internal) 0x5A) (eqb (l .running .internal) 0xA5) i;
       name = subst (λ (x : ℕ). nameOk (c .life .namelen) x ≡ true) g (p .name);
       selected = refl;
       count = p .count;
       passes = p .passes;
       rows = p .rows;
-      absent = or-r (eqb (l .rows) 0) true refl;
-      placed = or-r (eqb (l .count) 0 || taken (l .rows) 5 || false) (eqb (l .internal) 0x5A && true) (and-i (eqb (l .internal) 0x5A) true i refl);
+      absent = or-r (eqb (l .running .rows) 0) true refl;
+      placed = or-r (eqb (l .count) 0 || taken (l .running .rows) 5 || false) (eqb (l .running .internal) 0x5A && true) (and-i (eqb (l .running .internal) 0x5A) true i refl);
       secrets = p .secrets;
       opened = refl;
       fits = refl;
       some = refl;
     })
 
-locked-good : (c : Card) (a : List ℕ) → Good areaSize c a → c .life .gp ≡ 0x07 → eqb (c .loading .internal) 0x5A ≡ true → Good areaSize (locked c) a
+locked-good : (c : Card) (a : List ℕ) → Good areaSize c a → c .life .gp ≡ 0x07 → eqb (c .loading .running .internal) 0x5A ≡ true → Good areaSize (locked c) a
 locked-good c a y g i = record { sound = locked-sound c (y .sound) g i; files = y .files; area = y .area }
 
 -- STORE DATA. An error locks in '5A'.
 errs-good : (w : ℕ) (c : Card) (a : List ℕ) → Good areaSize c a → c .life .gp ≡ 0x07 → GoodReply (errs w c a)
 unfolding errs
-errs-good w c a y g = by-cond (λ (d : Card). Good areaSize d a) (eqb (c .loading .internal) 0x5A) (λ e. locked-good c a y g e) (λ e. y)
+errs-good w c a y g = by-cond (λ (d : Card). Good areaSize d a) (eqb (c .loading .running .internal) 0x5A) (λ e. locked-good c a y g e) (λ e. y)
 
 kept-good : (c : Card) (s : State) → Kept (c .life) areaSize s → Good areaSize (withLoading (s .load) c) (s .area)
 kept-good c s k = record { sound = k .sound; files = k .files; area = k .area }
@@ -81,7 +81,7 @@ storeData-good : (p1 : ℕ) (d : List ℕ) (c : Card) (a : List ℕ) → Good ar
 unfolding storeData
 storeData-good p1 d c a y =
     by-cond GoodReply (c .life .selected)
-    (λ x. let g : c .life .gp ≡ 0x07 = selected-gp (c .life .selected) (c .life .gp) (c .loading .internal) (life-of (c .life) (c .loading) (y .sound) .selected) x in
+    (λ x. let g : c .life .gp ≡ 0x07 = selected-gp (c .life .selected) (c .life .gp) (c .loading .running .internal) (life-of (c .life) (c .loading) (y .sound) .selected) x in
     by-cond GoodReply (eqb (length d) 0) (λ e. errs-good 0x6700 c a y g)
     (λ e. let s : State = record { load = c .loading; area = a } in
     commanded-good c (command (c .chip .capacity) p1 d s) g
@@ -89,12 +89,12 @@ storeData-good p1 d c a y =
     (λ x. y)
 
 -- The life cycle's events, out of '5A'.
-module _ (c : Card) (a : List ℕ) (y : Good areaSize c a) (z : eqb (c .loading .internal) 0x5A ≡ false) where
+module _ (c : Card) (a : List ℕ) (y : Good areaSize c a) (z : eqb (c .loading .running .internal) 0x5A ≡ false) where
   old : LifeOf (c .life) (c .loading)
   old = life-of (c .life) (c .loading) (y .sound)
 
-  at : (g : ℕ) → c .life .gp ≡ g → LifeOk g (c .life .selected) (c .life .namelen) (c .loading .internal) (c .loading .rows)
-  at g e = subst (λ (x : ℕ). LifeOk x (c .life .selected) (c .life .namelen) (c .loading .internal) (c .loading .rows)) e old
+  at : (g : ℕ) → c .life .gp ≡ g → LifeOk g (c .life .selected) (c .life .namelen) (c .loading .running .internal) (c .loading .running .rows)
+  at g e = subst (λ (x : ℕ). LifeOk x (c .life .selected) (c .life .namelen) (c .loading .running .internal) (c .loading .running .rows)) e old
 
   living : (f : Life) (b : List ℕ) → length b ≡ areaSize → LifeOf f (c .loading) → Good areaSize (withLife f c) b
   living f b l k = record { sound = relived (c .life) f (c .loading) (y .sound) z k; files = y .files; area = l }
@@ -105,7 +105,7 @@ module _ (c : Card) (a : List ℕ) (y : Good areaSize c a) (z : eqb (c .loading 
       by-cond GoodReply (installForm n)
       (λ e. by-cond GoodReply (absent c)
       (λ f. living (installedAs p1 n c .life) (zeros areaSize) (length-replicate {A = ℕ} areaSize 0)
-      (installed (c .life .selected) (c .life .namelen) (c .loading .internal) (c .loading .rows) z (n .instanceLen) p1
+      (installed (c .life .selected) (c .life .namelen) (c .loading .running .internal) (c .loading .running .rows) z (n .instanceLen) p1
       (search (and-l, and-r)) (at 0x00 (eqb-true (c .life .gp) 0x00 f))))
       (λ f. y))
       (λ e. y)
@@ -117,7 +117,7 @@ module _ (c : Card) (a : List ℕ) (y : Good areaSize c a) (z : eqb (c .loading 
       (λ e. by-cond GoodReply (absent c || not (isName c (n .name))) (λ f. y)
       (λ f. by-cond GoodReply (eqb (c .life .gp) 0x03)
       (λ g. living (withGp 0x07 (c .life .selected) c .life) a (y .area)
-      (made-selectable (c .life .selected) (c .life .namelen) (c .loading .internal) (c .loading .rows) z (at 0x03 (eqb-true (c .life .gp) 0x03 g))))
+      (made-selectable (c .life .selected) (c .life .namelen) (c .loading .running .internal) (c .loading .running .rows) z (at 0x03 (eqb-true (c .life .gp) 0x03 g))))
       (λ g. y)))
       (λ e. y)
 
@@ -132,9 +132,9 @@ module _ (c : Card) (a : List ℕ) (y : Good areaSize c a) (z : eqb (c .loading 
   select-good d =
       by-cond GoodReply (eqb (c .life .gp) 0x07 && isName c d)
       (λ e. let k : Good areaSize (withGp 0x07 true c) a = living (withGp 0x07 true c .life) a (y .area)
-      (chosen (c .life .selected) (c .life .namelen) (c .loading .internal) (c .loading .rows) z
+      (chosen (c .life .selected) (c .life .namelen) (c .loading .running .internal) (c .loading .running .rows) z
       (at 0x07 (eqb-true (c .life .gp) 0x07 (and-l (eqb (c .life .gp) 0x07) (isName c d) e)))) in
-      by-cond GoodReply (eqb (c .loading .internal) 0xCC) (λ f. k) (λ f. k))
+      by-cond GoodReply (eqb (c .loading .running .internal) 0xCC) (λ f. k) (λ f. k))
       (λ e. y)
 
   lock-good : GoodReply (lock c a)
@@ -143,7 +143,7 @@ module _ (c : Card) (a : List ℕ) (y : Good areaSize c a) (z : eqb (c .loading 
       by-cond GoodReply (absent c) (λ e. y)
       (λ e. by-cond GoodReply (leb 0x80 (c .life .gp)) (λ f. y)
       (λ f. living (withGp (c .life .gp + 0x80) false c .life) a (y .area)
-      (locks (c .life .selected) (c .life .namelen) (c .loading .internal) (c .loading .rows) z (c .life .gp) (old .gp) e f old)))
+      (locks (c .life .selected) (c .life .namelen) (c .loading .running .internal) (c .loading .running .rows) z (c .life .gp) (old .gp) e f old)))
 
   unlock-good : GoodReply (unlock c a)
   unfolding unlock
@@ -151,14 +151,14 @@ module _ (c : Card) (a : List ℕ) (y : Good areaSize c a) (z : eqb (c .loading 
       by-cond GoodReply (absent c) (λ e. y)
       (λ e. by-cond GoodReply (leb 0x80 (c .life .gp))
       (λ f. living (withGp (c .life .gp - 0x80) (c .life .selected) c .life) a (y .area)
-      (unlocks (c .life .selected) (c .life .namelen) (c .loading .internal) (c .loading .rows) z (c .life .gp) (old .gp) f old))
+      (unlocks (c .life .selected) (c .life .namelen) (c .loading .running .internal) (c .loading .running .rows) z (c .life .gp) (old .gp) f old))
       (λ f. y))
 
   deselect-good : GoodReply (deselect c a)
   unfolding deselect
   deselect-good =
       living (withGp (c .life .gp) false c .life) a (y .area)
-      (unchosen (c .life .selected) (c .life .namelen) (c .loading .internal) (c .loading .rows) z (c .life .gp) old)
+      (unchosen (c .life .selected) (c .life .namelen) (c .loading .running .internal) (c .loading .running .rows) z (c .life .gp) old)
 
   otherwise-good : (e : Event) → GoodReply (otherwise e c a)
   unfolding otherwise foreign
@@ -178,7 +178,7 @@ stuck-good e c a y =
     by-cond GoodReply (eqb (e .kind) 3) (λ h. by-cond GoodReply (isName c (e .bytes)) (λ k. y) (λ k. y))
     (λ h. by-cond GoodReply (eqb (e .kind) 5 || eqb (e .kind) 6) (λ k. y) (λ k. y))
 
-personalizing-good : (e : Event) (c : Card) (a : List ℕ) → Good areaSize c a → eqb (c .loading .internal) 0x5A ≡ true → GoodReply (personalizing e c a)
+personalizing-good : (e : Event) (c : Card) (a : List ℕ) → Good areaSize c a → eqb (c .loading .running .internal) 0x5A ≡ true → GoodReply (personalizing e c a)
 unfolding personalizing
 personalizing-good e c a y i =
     by-cond GoodReply (eqb (c .life .gp) 0x07)
@@ -188,4 +188,4 @@ personalizing-good e c a y i =
 
 pub event-good : (e : Event) (c : Card) (a : List ℕ) → Good areaSize c a → GoodReply (event e c a)
 unfolding event
-event-good e c a y = by-cond GoodReply (eqb (c .loading .internal) 0x5A) (λ i. personalizing-good e c a y i) (λ i. otherwise-good c a y i e)
+event-good e c a y = by-cond GoodReply (eqb (c .loading .running .internal) 0x5A) (λ i. personalizing-good e c a y i) (λ i. otherwise-good c a y i e)

@@ -80,11 +80,11 @@ Misses m (Record tag written missing) = ⊥
 
 pub record Fed (k m : ℕ) (s : State) : Type 0 where
   pub steady : Steady k s
-  pub misses : Misses m (s .load .pending)
+  pub misses : Misses m (s .load .running .pending)
 
 -- the open value of a state that is looked at may be named by itself
 abbrev pub InsideWith : Open → State → Type 0
-InsideWith o s = Inside (s .load .internal) (s .load .rows) o (s .load .files) (s .load .count) (s .load .secrets)
+InsideWith o s = Inside (s .load .running .internal) (s .load .running .rows) o (s .load .files) (s .load .count) (s .load .secrets)
 
 module _ (k held : ℕ) (s : State) (y : Steady k s) where
   done-fed : (m : ℕ) (d : Descriptor) → held + 1 ≡ descriptorSize → passed (admitOf d (fileList (s .load))) ≡ true
@@ -126,6 +126,6 @@ tableBytes-fed [] k m s y h = rw sub-zero y
 tableBytes-fed (b ∷ bs) k zero s y h = absurd (omega arith)
 tableBytes-fed (b ∷ bs) k (suc m) s y h =
     then-ends (λ (a : ℕ) (t : State). Fed k m t) (λ (a : ℕ) (t : State). Fed k (suc m - suc (length bs)) t) (Steady k)
-    (inTable (s .load .pending) b s) (λ a. tableBytes bs)
-    (inTable-fed k m b s (s .load .pending) (y .steady) (y .steady .inside) (y .misses))
+    (inTable (s .load .running .pending) b s) (λ a. tableBytes bs)
+    (inTable-fed k m b s (s .load .running .pending) (y .steady) (y .steady .inside) (y .misses))
     (λ a t z. rw suc-sub-suc (tableBytes-fed bs k m t z (omega arith)))

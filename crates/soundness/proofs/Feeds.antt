@@ -25,7 +25,7 @@ use Rattle.soundness.proofs.Feeding.{Misses, Fed, InsideWith, tableByte
 -- where the walk may go on: bytes are left only where nothing is open
 pub record Walks (k : ℕ) (left : List ℕ) (s : State) : Type 0 where
   pub steady : Steady k s
-  pub shut : 1 ≤ length left → isShut (s .load .pending) ≡ true
+  pub shut : 1 ≤ length left → isShut (s .load .running .pending) ≡ true
 
 -- a rule that reads bytes, whichever way it ends
 abbrev pub Going : ℕ → Result (List ℕ) → Type 0
@@ -46,7 +46,7 @@ module _ (k tag written missing n : ℕ) (s : State) (a : length (s .area) ≡ k
     area = a;
   }
 
-  record-shut : (m : ℕ) → m ≡ 0 → isShut (recordDone tag (written + n) m s .load .pending) ≡ true
+  record-shut : (m : ℕ) → m ≡ 0 → isShut (recordDone tag (written + n) m s .load .running .pending) ≡ true
   unfolding recordDone
   record-shut zero e = refl
   record-shut (suc m) e = absurd (omega arith)
@@ -85,7 +85,7 @@ table-walks k held missing bytes s y =
     (tableBytes-fed v k missing s y (taken-length missing bytes))
     (λ a t z. record {
       steady = z .steady;
-      shut = λ l. misses-none (missing - length v) (t .load .pending) (omega arith) (z .misses) (z .steady .some);
+      shut = λ l. misses-none (missing - length v) (t .load .running .pending) (omega arith) (z .misses) (z .steady .some);
     })
 
 -- a '3100' that is open misses something
@@ -103,7 +103,7 @@ some-table (Record tag written missing) e = refl
 pub shut-some : (o : Open) → o ≡ Shut → someMissing o ≡ true
 shut-some o e = rw e
 
-feeding-walks : (k : ℕ) (o : Open) (bytes : List ℕ) (s : State) → s .load .pending ≡ o → tableSome o ≡ true → length (s .area) ≡ k → InsideOf (s .load)
+feeding-walks : (k : ℕ) (o : Open) (bytes : List ℕ) (s : State) → s .load .running .pending ≡ o → tableSome o ≡ true → length (s .area) ≡ k → InsideOf (s .load)
     → Going k (feeding o bytes s)
 feeding-walks k Shut bytes s e b a h = record { steady = record { inside = h; some = shut-some _ e; area = a }; shut = λ l. ap isShut e }
 feeding-walks k (Table held missing) bytes s e b a h =
@@ -115,7 +115,7 @@ feeding-walks k (Record tag written missing) bytes s e b a h =
     record-walks k tag written missing bytes s a (subst (λ (o : Open). InsideWith o s) e h)
 
 -- bytes for an open value, which is sound but that an 'ssnn' may miss nothing
-pub fed-walks : (k : ℕ) (bytes : List ℕ) (s : State) → tableSome (s .load .pending) ≡ true → length (s .area) ≡ k → InsideOf (s .load)
+pub fed-walks : (k : ℕ) (bytes : List ℕ) (s : State) → tableSome (s .load .running .pending) ≡ true → length (s .area) ≡ k → InsideOf (s .load)
     → Going k (fed bytes s)
 unfolding fed
-fed-walks k bytes s b a h = feeding-walks k (s .load .pending) bytes s refl b a h
+fed-walks k bytes s b a h = feeding-walks k (s .load .running .pending) bytes s refl b a h

@@ -27,7 +27,7 @@ use Rattle.soundness.proofs.RowFacts.{by-span, secret-most, room-most, 
 -- a state with nothing open
 pub record Closed (k : ℕ) (s : State) : Type 0 where
   pub inside : InsideWith Shut s
-  pub shut : s .load .pending ≡ Shut
+  pub shut : s .load .running .pending ≡ Shut
   pub area : length (s .area) ≡ k
 
 pub closed-steady : (k : ℕ) (s : State) → Closed k s → Steady k s
@@ -38,9 +38,9 @@ shut-is Shut e = refl
 shut-is (Table held missing) e = cc
 shut-is (Record tag written missing) e = cc
 
-pub steady-closed : (k : ℕ) (s : State) → Steady k s → isShut (s .load .pending) ≡ true → Closed k s
+pub steady-closed : (k : ℕ) (s : State) → Steady k s → isShut (s .load .running .pending) ≡ true → Closed k s
 steady-closed k s y e =
-    let q = shut-is (s .load .pending) e in
+    let q = shut-is (s .load .running .pending) e in
     record { inside = subst (λ (o : Open). InsideWith o s) q (y .inside); shut = q; area = y .area }
 
 closed-walks : (k : ℕ) (left : List ℕ) (s : State) → Closed k s → Walks k left s
@@ -98,7 +98,7 @@ table-opens : (k room : ℕ) (h : Head) (s : State) → Opens k room h s 5
 table-opens k room h s c r =
     let l = table-length (fileList (s .load)) (h .tag) room (h .len) (r .roomed) (r .fitting) in
     record {
-      inside = table-begun (h .len) (r .personal) (due-untaken (s .load .rows) (s .load .last) (h .tag) (r .rowDue)) (l .1) (l .2) (c .inside);
+      inside = table-begun (h .len) (r .personal) (due-untaken (s .load .running .rows) (s .load .running .last) (h .tag) (r .rowDue)) (l .1) (l .2) (c .inside);
       some = le-leb 1 (h .len) (l .0);
     }
 

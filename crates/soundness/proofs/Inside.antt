@@ -28,7 +28,7 @@ fitsIn Shut r n files = true
 fitsIn (Table held missing) r n files = not (taken r 5) && tableFits n held missing
 fitsIn (Record tag written missing) r n files = recordFits (tagSpot files tag) written missing
 
-pub fits-same : (o : Open) (l : Loading) → pendingFits o l ≡ fitsIn o (l .rows) (l .count) (fileList l)
+pub fits-same : (o : Open) (l : Loading) → pendingFits o l ≡ fitsIn o (l .running .rows) (l .count) (fileList l)
 fits-same Shut l = refl
 fits-same (Table held missing) l = refl
 fits-same (Record tag written missing) l = refl
@@ -47,11 +47,11 @@ pub record Inside (i r : ℕ) (o : Open) (fs : List Descriptor) (n : ℕ) (xs : 
 
 -- all of it but that an open value misses something
 abbrev pub InsideOf : Loading → Type 0
-InsideOf l = Inside (l .internal) (l .rows) (l .pending) (l .files) (l .count) (l .secrets)
+InsideOf l = Inside (l .running .internal) (l .running .rows) (l .running .pending) (l .files) (l .count) (l .secrets)
 
 pub record Steady (n : ℕ) (s : State) : Type 0 where
   pub inside : InsideOf (s .load)
-  pub some : someMissing (s .load .pending) ≡ true
+  pub some : someMissing (s .load .running .pending) ≡ true
   pub area : length (s .area) ≡ n
 
 -- a rule that stays so, whichever way it ends
@@ -85,15 +85,15 @@ steady-of f n s g k =
     let l = s .load in
     record {
       inside = record {
-        stage = stage-of (eqb (l .internal) 0xCC) (eqb (l .internal) 0x5A) (eqb (l .internal) 0xA5) (eqb (f .gp) 0x07 || eqb (f .gp) 0x87) (p .internal);
+        stage = stage-of (eqb (l .running .internal) 0xCC) (eqb (l .running .internal) 0x5A) (eqb (l .running .internal) 0xA5) (eqb (f .gp) 0x07 || eqb (f .gp) 0x87) (p .internal);
         room = k .files;
         count = p .count;
         passes = p .passes;
         rows = p .rows;
-        placed = or-left _ _ (p .placed) (not-locked (eqb (l .internal) 0x5A) (f .gp) g);
+        placed = or-left _ _ (p .placed) (not-locked (eqb (l .running .internal) 0x5A) (f .gp) g);
         secrets = p .secrets;
-        opened = opened-of (l .pending) (f .gp) (l .internal) (p .opened);
-        fits = sym (fits-same (l .pending) l) ∙ p .fits;
+        opened = opened-of (l .running .pending) (f .gp) (l .running .internal) (p .opened);
+        fits = sym (fits-same (l .running .pending) l) ∙ p .fits;
       };
       some = p .some;
       area = k .area;
@@ -124,17 +124,17 @@ kept-of f n s y k =
     record {
       sound = sound-of-parts f l (record {
         gp = gp-ok (f .gp) (y .gp);
-        internal = internal-ok (eqb (l .internal) 0xCC) (eqb (l .internal) 0x5A) (eqb (l .internal) 0xA5) (f .gp) (y .gp) (h .stage);
+        internal = internal-ok (eqb (l .running .internal) 0xCC) (eqb (l .running .internal) 0x5A) (eqb (l .running .internal) 0xA5) (f .gp) (y .gp) (h .stage);
         name = y .name;
-        selected = selected-ok (f .selected) (f .gp) (l .internal) (y .selected) (y .gp);
+        selected = selected-ok (f .selected) (f .gp) (l .running .internal) (y .selected) (y .gp);
         count = h .count;
         passes = h .passes;
         rows = h .rows;
-        absent = or-r (eqb (l .rows) 0) (not (eqb (f .gp) 0x00)) (present (f .gp) (y .gp));
-        placed = or-l (eqb (l .count) 0 || taken (l .rows) 5 || tableOpen (l .pending)) (eqb (l .internal) 0x5A && eqb (f .gp) 0x87) (h .placed);
+        absent = or-r (eqb (l .running .rows) 0) (not (eqb (f .gp) 0x00)) (present (f .gp) (y .gp));
+        placed = or-l (eqb (l .count) 0 || taken (l .running .rows) 5 || tableOpen (l .running .pending)) (eqb (l .running .internal) 0x5A && eqb (f .gp) 0x87) (h .placed);
         secrets = h .secrets;
-        opened = open-ok (l .pending) (f .gp) (l .internal) (y .gp) (h .opened);
-        fits = fits-same (l .pending) l ∙ h .fits;
+        opened = open-ok (l .running .pending) (f .gp) (l .running .internal) (y .gp) (h .opened);
+        fits = fits-same (l .running .pending) l ∙ h .fits;
         some = k .some;
       });
       files = h .room;

@@ -36,7 +36,7 @@ module _ (f : Life) (n : ℕ) (g : f .gp ≡ 0x07) (x : f .selected ≡ true) wh
   steady : (s : State) → Kept f n s → Steady n s
   steady s y = steady-of f n s g y
 
-  closed : (s : State) → Kept f n s → s .load .pending ≡ Shut → Closed n s
+  closed : (s : State) → Kept f n s → s .load .running .pending ≡ Shut → Closed n s
   closed s y e = steady-closed n s (steady s y) (ap isShut e)
 
   keeps : {A : Type 0} (r : Result A) → Personal f → Staying n r → Keeps f n r
@@ -45,11 +45,11 @@ module _ (f : Life) (n : ℕ) (g : f .gp ≡ 0x07) (x : f .selected ≡ true) wh
   goes : (r : Result (List ℕ)) → Personal f → Going n r → GoesOn f n r
   goes r p h =
       ends-weaken (λ left t. Walks n left t) (λ left t. Onward f n left t) (Steady n) (Kept f n) r
-      (λ left t z. record { kept = kept-of f n t p (z .steady); shut = λ l. shut-is (t .load .pending) (z .shut l) })
+      (λ left t z. record { kept = kept-of f n t p (z .steady); shut = λ l. shut-is (t .load .running .pending) (z .shut l) })
       (λ t z. kept-of f n t p z) h
 
   -- bytes that an open '3100' misses
-  pub tableBytes-keeps : (v : List ℕ) (held missing : ℕ) (s : State) → Kept f n s → s .load .pending ≡ Table held missing → length v ≤ missing
+  pub tableBytes-keeps : (v : List ℕ) (held missing : ℕ) (s : State) → Kept f n s → s .load .running .pending ≡ Table held missing → length v ≤ missing
       → Keeps f n (tableBytes v s)
   tableBytes-keeps v held missing s y e l =
       keeps (tableBytes v s) (life s y)
@@ -59,19 +59,19 @@ module _ (f : Life) (n : ℕ) (g : f .gp ≡ 0x07) (x : f .selected ≡ true) wh
   pub fed-goes : (bytes : List ℕ) (s : State) → Kept f n s → GoesOn f n (fed bytes s)
   fed-goes bytes s y =
       let z = steady s y in
-      goes (fed bytes s) (life s y) (fed-walks n bytes s (some-table (s .load .pending) (z .some)) (z .area) (z .inside))
+      goes (fed bytes s) (life s y) (fed-walks n bytes s (some-table (s .load .running .pending) (z .some)) (z .area) (z .inside))
 
   -- where rules a to g have passed a value that spans, it fits once it is open, also an empty one, which is closed at once
-  pub opened-fits : (row room : ℕ) (h : Head) (s : State) → Kept f n s → s .load .pending ≡ Shut → Ruled s h row room → rowAt row .spans ≡ true
+  pub opened-fits : (row room : ℕ) (h : Head) (s : State) → Kept f n s → s .load .running .pending ≡ Shut → Ruled s h row room → rowAt row .spans ≡ true
       → pendingFits (openedAs row (h .tag) (h .len)) (withOpen (openedAs row (h .tag) (h .len)) (s .load .held) (s .load)) ≡ true
   opened-fits row room h s y e r p =
       fits-same (openedAs row (h .tag) (h .len)) (opening row h s .load) ∙ spans-open n room h s row p (closed s y e) r .inside .fits
 
-  pub spanned-goes : (row room : ℕ) (h : Head) (bytes : List ℕ) (s : State) → Kept f n s → s .load .pending ≡ Shut → Ruled s h row room
+  pub spanned-goes : (row room : ℕ) (h : Head) (bytes : List ℕ) (s : State) → Kept f n s → s .load .running .pending ≡ Shut → Ruled s h row room
       → rowAt row .spans ≡ true → GoesOn f n (spanned row h bytes s)
   spanned-goes row room h bytes s y e r p = goes (spanned row h bytes s) (life s y) (spanned-walks n room h bytes s row p (closed s y e) r)
 
-  pub whole-goes : (capacity row room : ℕ) (h : Head) (bytes : List ℕ) (s : State) → Kept f n s → s .load .pending ≡ Shut → Ruled s h row room
+  pub whole-goes : (capacity row room : ℕ) (h : Head) (bytes : List ℕ) (s : State) → Kept f n s → s .load .running .pending ≡ Shut → Ruled s h row room
       → rowAt row .spans ≡ false → GoesOn f n (whole capacity row h bytes s)
   whole-goes capacity row room h bytes s y e r p =
       goes (whole capacity row h bytes s) (life s y)
@@ -79,25 +79,25 @@ module _ (f : Life) (n : ℕ) (g : f .gp ≡ 0x07) (x : f .selected ≡ true) wh
       (omega (arith, length-most row room (h .len) (r .fitting), room-most (fileList (s .load)) (h .tag) room row (r .least) (r .most) p (r .roomed)))
       (closed s y e))
 
-  pub ruleH-goes : (capacity row room : ℕ) (h : Head) (bytes : List ℕ) (s : State) → Kept f n s → s .load .pending ≡ Shut → Ruled s h row room
+  pub ruleH-goes : (capacity row room : ℕ) (h : Head) (bytes : List ℕ) (s : State) → Kept f n s → s .load .running .pending ≡ Shut → Ruled s h row room
       → GoesOn f n (ruleH capacity row h bytes s)
   ruleH-goes capacity row room h bytes s y e r = goes (ruleH capacity row h bytes s) (life s y) (ruleH-walks n capacity row room h bytes s (closed s y e) r)
 
-  pub grouping-goes : (capacity m p1 : ℕ) (bytes : List ℕ) (s : State) → Kept f n s → s .load .pending ≡ Shut → GoesOn f n (grouping capacity m p1 bytes s)
+  pub grouping-goes : (capacity m p1 : ℕ) (bytes : List ℕ) (s : State) → Kept f n s → s .load .running .pending ≡ Shut → GoesOn f n (grouping capacity m p1 bytes s)
   grouping-goes capacity m p1 bytes s y e = goes (grouping capacity m p1 bytes s) (life s y) (grouping-walks n capacity m p1 bytes s (closed s y e))
 
   pub fed-keeps : (bytes : List ℕ) (s : State) → Kept f n s → Keeps f n (fed bytes s)
   fed-keeps bytes s y = goes-keeps f n (fed bytes s) (fed-goes bytes s y)
 
-  pub spanned-keeps : (row room : ℕ) (h : Head) (bytes : List ℕ) (s : State) → Kept f n s → s .load .pending ≡ Shut → Ruled s h row room
+  pub spanned-keeps : (row room : ℕ) (h : Head) (bytes : List ℕ) (s : State) → Kept f n s → s .load .running .pending ≡ Shut → Ruled s h row room
       → rowAt row .spans ≡ true → Keeps f n (spanned row h bytes s)
   spanned-keeps row room h bytes s y e r p = goes-keeps f n (spanned row h bytes s) (spanned-goes row room h bytes s y e r p)
 
-  pub whole-keeps : (capacity row room : ℕ) (h : Head) (bytes : List ℕ) (s : State) → Kept f n s → s .load .pending ≡ Shut → Ruled s h row room
+  pub whole-keeps : (capacity row room : ℕ) (h : Head) (bytes : List ℕ) (s : State) → Kept f n s → s .load .running .pending ≡ Shut → Ruled s h row room
       → rowAt row .spans ≡ false → Keeps f n (whole capacity row h bytes s)
   whole-keeps capacity row room h bytes s y e r p = goes-keeps f n (whole capacity row h bytes s) (whole-goes capacity row room h bytes s y e r p)
 
-  pub grouping-keeps : (capacity m p1 : ℕ) (bytes : List ℕ) (s : State) → Kept f n s → s .load .pending ≡ Shut → Keeps f n (grouping capacity m p1 bytes s)
+  pub grouping-keeps : (capacity m p1 : ℕ) (bytes : List ℕ) (s : State) → Kept f n s → s .load .running .pending ≡ Shut → Keeps f n (grouping capacity m p1 bytes s)
   grouping-keeps capacity m p1 bytes s y e = goes-keeps f n (grouping capacity m p1 bytes s) (grouping-goes capacity m p1 bytes s y e)
 
   pub walk-keeps : (fuel capacity m p1 : ℕ) (bytes : List ℕ) (s : State) → Onward f n bytes s → Keeps f n (walk fuel capacity m p1 bytes s)

@@ -24,7 +24,7 @@ pub record LifeOk (g : ℕ) (x : Bool) (n i r : ℕ) : Type 0 where
   pub absent : (eqb r 0 || not (eqb g 0x00)) ≡ true
 
 abbrev pub LifeOf : Life → Loading → Type 0
-LifeOf f l = LifeOk (f .gp) (f .selected) (f .namelen) (l .internal) (l .rows)
+LifeOf f l = LifeOk (f .gp) (f .selected) (f .namelen) (l .running .internal) (l .running .rows)
 
 pub life-of : (f : Life) (l : Loading) → soundWith f l ≡ true → LifeOf f l
 life-of f l e =
@@ -43,7 +43,7 @@ placed-other false true g h z e = absurd (true≢false z)
 placed-other false false g h z e = e
 
 -- another life, out of '5A'
-pub relived : (f f′ : Life) (l : Loading) → soundWith f l ≡ true → eqb (l .internal) 0x5A ≡ false → LifeOf f′ l → soundWith f′ l ≡ true
+pub relived : (f f′ : Life) (l : Loading) → soundWith f l ≡ true → eqb (l .running .internal) 0x5A ≡ false → LifeOf f′ l → soundWith f′ l ≡ true
 relived f f′ l e z k =
     let p = sound-parts f l e in
     sound-of-parts f′ l (record {
@@ -55,9 +55,9 @@ relived f f′ l e z k =
       passes = p .passes;
       rows = p .rows;
       absent = k .absent;
-      placed = placed-other (eqb (l .count) 0 || taken (l .rows) 5 || tableOpen (l .pending)) (eqb (l .internal) 0x5A) (f .gp) (f′ .gp) z (p .placed);
+      placed = placed-other (eqb (l .count) 0 || taken (l .running .rows) 5 || tableOpen (l .running .pending)) (eqb (l .running .internal) 0x5A) (f .gp) (f′ .gp) z (p .placed);
       secrets = p .secrets;
-      opened = open-other (l .pending) (f .gp) (f′ .gp) (l .internal) z (p .opened);
+      opened = open-other (l .running .pending) (f .gp) (f′ .gp) (l .running .internal) z (p .opened);
       fits = p .fits;
       some = p .some;
     })

@@ -32,9 +32,9 @@ table-facts rows count held missing e =
     }
 
 -- AN OPEN '3100'
-pub table-opened : (l : Loading) (held missing : ℕ) → l .pending ≡ Table held missing → pendingFits (l .pending) l ≡ true
-    → TableOpen (l .rows) (l .count) held missing
-table-opened l held missing e h = table-facts (l .rows) (l .count) held missing (subst (λ (o : Open). pendingFits o l ≡ true) e h)
+pub table-opened : (l : Loading) (held missing : ℕ) → l .running .pending ≡ Table held missing → pendingFits (l .running .pending) l ≡ true
+    → TableOpen (l .running .rows) (l .count) held missing
+table-opened l held missing e h = table-facts (l .running .rows) (l .count) held missing (subst (λ (o : Open). pendingFits o l ≡ true) e h)
 
 record-fits : (l : Loading) (tag written missing : ℕ) (x : Spot) → tagSpot (fileList l) tag ≡ x → recordFits x written missing ≡ true
     → total (fileList l) ≤ areaSize → RecordOpen l tag written missing
@@ -48,18 +48,18 @@ record-fits l tag written missing (At base size) e h t = record {
 }
 
 -- AN OPEN 'ssnn'
-pub record-opened : (l : Loading) (tag written missing : ℕ) → l .pending ≡ Record tag written missing → pendingFits (l .pending) l ≡ true
+pub record-opened : (l : Loading) (tag written missing : ℕ) → l .running .pending ≡ Record tag written missing → pendingFits (l .running .pending) l ≡ true
     → tablePasses (l .files) (l .count) ≡ true → RecordOpen l tag written missing
 record-opened l tag written missing e h p =
     record-fits l tag written missing (tagSpot (fileList l) tag) refl (subst (λ (o : Open). pendingFits o l ≡ true) e h)
     (total-passes (l .files) (l .count) p)
 
 -- the same of a sound state
-pub sound-table : (f : Life) (l : Loading) (held missing : ℕ) → soundWith f l ≡ true → l .pending ≡ Table held missing
-    → TableOpen (l .rows) (l .count) held missing
+pub sound-table : (f : Life) (l : Loading) (held missing : ℕ) → soundWith f l ≡ true → l .running .pending ≡ Table held missing
+    → TableOpen (l .running .rows) (l .count) held missing
 sound-table f l held missing s e = table-opened l held missing e (sound-parts f l s .fits)
 
-pub sound-record : (f : Life) (l : Loading) (tag written missing : ℕ) → soundWith f l ≡ true → l .pending ≡ Record tag written missing
+pub sound-record : (f : Life) (l : Loading) (tag written missing : ℕ) → soundWith f l ≡ true → l .running .pending ≡ Record tag written missing
     → RecordOpen l tag written missing
 sound-record f l tag written missing s e = record-opened l tag written missing e (sound-parts f l s .fits) (sound-parts f l s .passes)
 

@@ -19,7 +19,7 @@ sound-parts f l e = record {
   selected = search (and-l, and-r) depth 12;
   count = leb-true (l .count) tableLimit (search (and-l, and-r) depth 12);
   passes = search (and-l, and-r) depth 12;
-  rows = ltb-true (l .rows) (2 ^ 11) (search (and-l, and-r) depth 12);
+  rows = ltb-true (l .running .rows) (2 ^ 11) (search (and-l, and-r) depth 12);
   absent = search (and-l, and-r) depth 12;
   placed = search (and-l, and-r) depth 12;
   secrets = search (and-l, and-r) depth 12;
@@ -34,4 +34,4 @@ unfolding soundWith
 sound-of-parts f l p =
     and-i _ _ (and-i _ _ (and-i _ _ (and-i _ _ (and-i _ _ (and-i _ _ (and-i _ _ (and-i _ _ (and-i _ _ (and-i _ _
     (p .gp) (p .internal)) (p .name)) (p .selected)) (and-i _ _ (le-leb (l .count) tableLimit (p .count)) (p .passes)))
-    (and-i _ _ (lt-ltb (l .rows) (2 ^ 11) (p .rows)) (p .absent))) (p .placed)) (p .secrets)) (p .opened)) (p .fits)) (p .some)
+    (and-i _ _ (lt-ltb (l .running .rows) (2 ^ 11) (p .rows)) (p .absent))) (p .placed)) (p .secrets)) (p .opened)) (p .fits)) (p .some)

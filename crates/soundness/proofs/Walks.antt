@@ -31,7 +31,7 @@ query-stops k R n p1 bytes h s c =
     by-cond (Ends R (Steady k)) (aloneAtStart n bytes h)
     (λ e. by-cond (Ends R (Steady k)) (bit1 p1 && not (bit8 p1))
     (λ f. by-cond (Ends R (Steady k)) (eqb (h .tag) 0x9484)
-    (λ g. by-cond (Ends R (Steady k)) (eqb (s .load .internal) 0xCC && due (s .load .rows) (s .load .last) 1 0x9484)
+    (λ g. by-cond (Ends R (Steady k)) (eqb (s .load .running .internal) 0xCC && due (s .load .running .rows) (s .load .running .last) 1 0x9484)
     (λ i. closed-steady k (changed (withTaken 1) s) (closed-taken k 1 s (omega arith) (omega arith) c))
     (λ i. closed-steady k s c))
     (λ g. closed-steady k s c))
@@ -63,14 +63,14 @@ module _ {B : Type 0} (k : ℕ) (R : B → State → Type 0) (s : State) where
 
   c-then : (m : ℕ → Rule B) → Steady k s → Ends R (Steady k) (m 0 (changed (withInternal 0x5A) s)) → Ends R (Steady k) (thence (ruleC s) m)
   unfolding ruleC
-  c-then m y f = by-cond (λ (r : Result ℕ). Ends R (Steady k) (thence r m)) (eqb (s .load .internal) 0xA5) (λ e. y) (λ e. f)
+  c-then m y f = by-cond (λ (r : Result ℕ). Ends R (Steady k) (thence r m)) (eqb (s .load .running .internal) 0xA5) (λ e. y) (λ e. f)
 
   d-then : (tag : ℕ) (m : ℕ → Rule B) → Steady k s
-      → ((row : ℕ) → (1 ≤ row) × (row ≤ 11) × (due (s .load .rows) (s .load .last) row tag ≡ true) → Ends R (Steady k) (m row s))
+      → ((row : ℕ) → (1 ≤ row) × (row ≤ 11) × (due (s .load .running .rows) (s .load .running .last) row tag ≡ true) → Ends R (Steady k) (m row s))
       → Ends R (Steady k) (thence (ruleD tag s) m)
   unfolding ruleD
   d-then tag m y f =
-      judged-then R (Steady k) (dueRow (s .load .rows) (s .load .last) tag) s m y (λ n e. f n (dueRow-passes (s .load .rows) (s .load .last) tag n e))
+      judged-then R (Steady k) (dueRow (s .load .running .rows) (s .load .running .last) tag) s m y (λ n e. f n (dueRow-passes (s .load .running .rows) (s .load .running .last) tag n e))
 
   e-then : (row tag : ℕ) (m : ℕ → Rule B) → Steady k s → ((room : ℕ) → roomOf (fileList (s .load)) row tag ≡ Passes room → Ends R (Steady k) (m room s))
       → Ends R (Steady k) (thence (ruleE row tag s) m)
@@ -126,7 +126,7 @@ unfolding theEnd ready
 theEnd-steady k p1 s y =
     by-cond (λ (r : Result ℕ). Staying k r) (bit8 p1)
     (λ e. by-cond (λ (r : Result ℕ). Staying k r) (ready s)
-    (λ f. let c = steady-closed k s y (and-r (not (mandatoryMissing (s .load .rows))) (isShut (s .load .pending)) f) in
+    (λ f. let c = steady-closed k s y (and-r (not (mandatoryMissing (s .load .running .rows))) (isShut (s .load .running .pending)) f) in
     closed-steady k (changed (withInternal 0xA5) s) (record { inside = ended (c .inside); shut = c .shut; area = c .area }))
     (λ f. y))
     (λ e. y)
@@ -137,7 +137,7 @@ command-steady k capacity p1 bytes s y =
     let R : ℕ → State → Type 0 = λ a t. Steady k t in
     then-ends (λ (left : List ℕ) (t : State). Walks k left t) R (Steady k) (fed bytes s)
     (λ left. walk (length left) capacity (length bytes) p1 left >> theEnd p1)
-    (fed-walks k bytes s (some-table (s .load .pending) (y .some)) (y .area) (y .inside))
+    (fed-walks k bytes s (some-table (s .load .running .pending) (y .some)) (y .area) (y .inside))
     (λ left t w. then-ends R R (Steady k) (walk (length left) capacity (length bytes) p1 left t) (λ a. theEnd p1)
     (walk-steady (length left) k capacity (length bytes) p1 left t w)
     (λ a u z. theEnd-steady k p1 u z))

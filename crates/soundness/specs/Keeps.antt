@@ -34,7 +34,7 @@ Keeps f n r = Ends (λ a s. Kept f n s) (Kept f n) r
 -- where a rule that reads bytes went on: bytes are left only where nothing is open
 pub record Onward (f : Life) (n : ℕ) (left : List ℕ) (s : State) : Type 0 where
   pub kept : Kept f n s
-  pub shut : 1 ≤ length left → s .load .pending ≡ Shut
+  pub shut : 1 ≤ length left → s .load .running .pending ≡ Shut
 
 abbrev pub GoesOn : Life → ℕ → Result (List ℕ) → Type 0
 GoesOn f n r = Ends (λ left s. Onward f n left s) (Kept f n) r
@@ -43,8 +43,8 @@ GoesOn f n r = Ends (λ left s. Onward f n left s) (Kept f n) r
 pub record Ruled (s : State) (h : Head) (row room : ℕ) : Type 0 where
   pub least : 1 ≤ row
   pub most : row ≤ 11
-  pub personal : eqb (s .load .internal) 0x5A ≡ true
-  pub rowDue : due (s .load .rows) (s .load .last) row (h .tag) ≡ true
+  pub personal : eqb (s .load .running .internal) 0x5A ≡ true
+  pub rowDue : due (s .load .running .rows) (s .load .running .last) row (h .tag) ≡ true
   pub roomed : roomOf (fileList (s .load)) row (h .tag) ≡ Passes room
   pub fitting : lengthOk row room (h .len) ≡ true
 

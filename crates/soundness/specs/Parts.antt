@@ -10,15 +10,15 @@ use Rattle.model.specs.Sound.{gpOk, internalOk, nameOk, selectedOk, tablePlaced
 
 pub record SoundParts (f : Life) (l : Loading) : Type 0 where
   pub gp : gpOk (f .gp) ≡ true
-  pub internal : internalOk (l .internal) (f .gp) ≡ true
+  pub internal : internalOk (l .running .internal) (f .gp) ≡ true
   pub name : nameOk (f .namelen) (f .gp) ≡ true
-  pub selected : selectedOk (f .selected) (f .gp) (l .internal) ≡ true
+  pub selected : selectedOk (f .selected) (f .gp) (l .running .internal) ≡ true
   pub count : l .count ≤ tableLimit
   pub passes : tablePasses (l .files) (l .count) ≡ true
-  pub rows : l .rows < 2 ^ 11
-  pub absent : (eqb (l .rows) 0 || not (eqb (f .gp) 0x00)) ≡ true
+  pub rows : l .running .rows < 2 ^ 11
+  pub absent : (eqb (l .running .rows) 0 || not (eqb (f .gp) 0x00)) ≡ true
   pub placed : tablePlaced l (f .gp) ≡ true
   pub secrets : secretsOk (l .secrets) ≡ true
-  pub opened : openOk (l .pending) (f .gp) (l .internal) ≡ true
-  pub fits : pendingFits (l .pending) l ≡ true
-  pub some : someMissing (l .pending) ≡ true
+  pub opened : openOk (l .running .pending) (f .gp) (l .running .internal) ≡ true
+  pub fits : pendingFits (l .running .pending) l ≡ true
+  pub some : someMissing (l .running .pending) ≡ true

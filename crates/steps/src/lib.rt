@@ -1,67 +1,61 @@
-// What a step of a command's walk comes to, and the changes that it makes in the loading part.
-use model::Loading;
+// What a step of a command's walk comes to: small, whatever it judged. The owner of the loading part and of the file area makes
+// the change.
 use model::Open;
-use model::Verdict;
+use model::Running;
 ghost use mathlib.Core.Path.{_≡_};
 ghost use Prim.Native.Nat.{_≤_};
-ghost use Rattle.model.specs.Loads.{withTaken, withOpen};
+ghost use Rattle.model.specs.Loads.{runningTaken, runningOpen};
 ghost use Rattle.steps.specs.declared.Course.the-variants.{Failed};
 
-// How a step of the walk ends: it goes on from a place of the data, a query was asked, or it failed by a word.
+// How a step ends: a value is to be kept, bytes are to be laid in the file area, bytes of '3100' are to be taken, all of them
+// named by places of the data; a query was asked; or it failed by a word.
 pub enum Course {
-    Went(usize),
+    Keeps {
+        row: usize,
+        start: usize,
+        end: usize,
+    },
+    Lays {
+        to: usize,
+        start: usize,
+        end: usize,
+    },
+    Feeds(usize),
     Asked(u16),
     Failed(u16),
 }
 
 pub struct Step {
     pub course: Course,
-    pub load: Loading,
-}
-
-// A value's bytes taken, or refused by a word, and the loading part.
-pub struct Taken {
-    pub verdict: Verdict,
-    pub load: Loading,
+    pub running: Running,
 }
 
 // A step that failed.
-pub fn failed_by(w: u16, l: Loading) -> Step
-    ensures { λ r. ⌜ r ≡ record { course = Failed w; load = l } ⌝ }
+pub fn failed_by(w: u16, p: Running) -> Step
+    ensures { λ r. ⌜ r ≡ record { course = Failed w; running = p } ⌝ }
 {
     Step {
         course: Course::Failed(w),
-        load: l,
+        running: p,
     }
 }
 
-// The loading part with another open value: the one place that makes it anew.
-pub fn with_open(l: Loading, o: Open, held: [u8; 18]) -> Loading
-    ensures { λ r. ⌜ r ≡ withOpen o held l ⌝ }
+// As far, with another open value.
+pub fn with_open(p: Running, o: Open) -> Running
+    ensures { λ r. ⌜ r ≡ runningOpen o p ⌝ }
 {
-    let files = l.files;
-    let serial = l.serial;
-    let startup = l.startup;
-    let secrets = l.secrets;
-    Loading {
-        internal: l.internal,
-        rows: l.rows,
-        last: l.last,
+    Running {
+        internal: p.internal,
+        rows: p.rows,
+        last: p.last,
         pending: o,
-        held: held,
-        files: files,
-        count: l.count,
-        serial: serial,
-        startup: startup,
-        counter: l.counter,
-        secrets: secrets,
     }
 }
 
-pub fn with_taken(mut l: Loading, r: usize) -> Loading
+pub fn with_taken(mut p: Running, r: usize) -> Running
     requires { ⌜ (1 ≤ r) × (r ≤ 11) ⌝ }
-    ensures { λ x. ⌜ x ≡ withTaken r l ⌝ }
+    ensures { λ x. ⌜ x ≡ runningTaken r p ⌝ }
 {
-    l.rows = sets::with_row(l.rows, r);
-    l
+    p.rows = sets::with_row(p.rows, r);
+    p
 }

@@ -1,21 +1,26 @@
 -- The search for the first missing row, turn by turn; a descriptor's bytes in an array.
 use Prim.Native.Nat.{ℕ, suc, _+_, _-_, _*_, _≤_, _<_}
-use mathlib.Core.Path.{_≡_, ap, _∙_}
+use mathlib.Core.Path.{_≡_, refl, ap, _∙_}
 use mathlib.Core.Bool.{Bool, true, false, cond}
 use mathlib.Core.List.{List}
 use native.Mathlib.Omega.{arith}
 use native.Mathlib.Nat.{add-zero}
+use lib.Dec.{eqb}
 use lib.ListN.{length, take, drop, getD, length-take, length-drop}
 use lib.Seq.{take-all, getD-drop}
 use borrow.Author.Tests.{lt-ltb, le-ltb, le-leb, lt-leb}
 use Rattle.lists.specs.Bytes.{zeros, part, word, wordAt, padded-full}
 use Rattle.lists.specs.Over.{overwrite, over-padded}
 use Rattle.model.specs.Rows.{rowTable, rowAt, missingFrom}
-use Rattle.model.specs.Rules.{lengthOk}
-use Rattle.records.specs.Steps.{fitsRow}
+use Rattle.model.specs.Rules.{tagSpot, roomIn, roomOf, lengthOk}
+use Rattle.steps.specs.Stages.{fitsRow}
 use Rattle.model.specs.declared.Descriptor.{Descriptor}
 use Rattle.model.specs.declared.Head.{Head}
 use Rattle.model.specs.declared.Row.{Row}
+use Rattle.model.specs.declared.Spot.{Spot}
+use Rattle.model.specs.declared.Spot.the-variants.{At}
+use Rattle.model.specs.declared.Verdict.the-variants.{Passes}
+use Rattle.rules.specs.Rooms.{roomSpot}
 use Rattle.flaws.specs.declared.Flaw.{Flaw}
 use Rattle.stops.specs.declared.Cause.the-variants as cause
 use Rattle.stops.specs.Stops.{missingRow, flawAt, stopAs, tornStop, tableStop, valueStop, lengthStop}
@@ -62,6 +67,16 @@ pub table-so : (files : List Descriptor) (count w : ℕ) (h : Head) (at : ℕ) (
     → stopAs (at - 3 + (h .size + count * 18)) (h .tag) w (cause.Descriptor (count + 1) flaw) ≡ tableStop files count w h (at - 3) (drop at d)
 unfolding tableStop
 table-so files count w h at d flaw e = rw (e, take-all (length d - at) (drop at d) (rw length-drop (omega arith)))
+
+-- rule e, of the place that was found
+pub room-so : (files : List Descriptor) (row tag : ℕ) (spot room : Spot) → spot ≡ tagSpot files tag → room ≡ roomSpot spot row
+    → roomOf files row tag ≡ roomIn room
+unfolding roomOf
+room-so files row tag spot room e f = rw (f, e) (go (eqb row 11))
+  where
+    go : (b : Bool) → cond b (roomIn (tagSpot files tag)) (Passes (rowAt row .most)) ≡ roomIn (cond b (tagSpot files tag) (At 0 (rowAt row .most)))
+    go true = refl
+    go false = refl
 
 -- rules f and g, by the row's constants
 module _ (files : List Descriptor) (count w row room : ℕ) (h : Head) (place at : ℕ) (d : List ℕ) (x : Row) (e : x ≡ rowAt row) where

@@ -1,9 +1,9 @@
 -- Why a grouping is not taken: the first rule that it breaks, in the rules' own order and by their own tests.
 use Prim.Native.Nat.{ℕ, zero, suc, _+_, _-_, _*_, _/_}
-use mathlib.Core.Bool.{Bool, cond, not, _||_}
+use mathlib.Core.Bool.{cond, _||_}
 use mathlib.Core.List.{List}
 use lib.Dec.{eqb, ltb, leb}
-use lib.ListN.{length, take, drop}
+use lib.ListN.{length, take}
 use Rattle.lists.specs.Bytes.{wordAt, part}
 use Rattle.model.specs.declared.Descriptor.{Descriptor}
 use Rattle.model.specs.declared.Head.{Head}
@@ -11,7 +11,7 @@ use Rattle.model.specs.declared.Header.{Header}
 use Rattle.model.specs.declared.Header.the-variants.{Torn, Whole}
 use Rattle.model.specs.declared.Verdict.{Verdict}
 use Rattle.model.specs.declared.Verdict.the-variants.{Passes, Refuses}
-use Rattle.model.specs.Rows.{rowTable, rowAt, rowOf, missingFrom, readyFor, due, descriptorSize}
+use Rattle.model.specs.Rows.{rowTable, rowAt, rowOf, missingFrom, due, descriptorSize}
 use Rattle.model.specs.Header.{headerOf}
 use Rattle.model.specs.Table.{descriptorOf}
 use Rattle.model.specs.Rules.{isQuery, roomOf, lengthOk}
@@ -71,24 +71,24 @@ lengthStop files count w row room h place bytes =
     (cond (rowAt row .spans || leb (h .len) left) (valueStop files count w row h place bytes) (stopAs place (h .tag) w (cause.CutShort (h .len - left))))
     (stopAs place (h .tag) w (cause.Length (h .len) room))
 
-abbrev pub roomStop : List Descriptor → Verdict → List Descriptor → ℕ → ℕ → ℕ → Head → ℕ → List ℕ → Stop
-roomStop before (Passes room) files count w row h place bytes = lengthStop files count w row room h place bytes
-roomStop before (Refuses x) files count w row h place bytes = stopAs place (h .tag) w (absentCause before (h .tag))
+abbrev pub roomStop : Verdict → List Descriptor → ℕ → ℕ → ℕ → Head → ℕ → List ℕ → Stop
+roomStop (Passes room) files count w row h place bytes = lengthStop files count w row room h place bytes
+roomStop (Refuses x) files count w row h place bytes = stopAs place (h .tag) w (absentCause files (h .tag))
 
 -- b and d
-unfoldable pub headStop : ℕ → ℕ → List Descriptor → List Descriptor → ℕ → ℕ → Head → ℕ → List ℕ → Stop
-headStop rows last before files count w h place bytes =
+unfoldable pub headStop : ℕ → ℕ → List Descriptor → ℕ → ℕ → Head → ℕ → List ℕ → Stop
+headStop rows last files count w h place bytes =
     let row = rowOf (h .tag) in
     cond (isQuery (h .tag)) (stopAs place (h .tag) w cause.Query)
     (cond (eqb row 0) (stopAs place (h .tag) w cause.UnknownTag)
-    (cond (due rows last row (h .tag)) (roomStop before (roomOf before row (h .tag)) files count w row h place bytes)
+    (cond (due rows last row (h .tag)) (roomStop (roomOf files row (h .tag)) files count w row h place bytes)
     (stopAs place (h .tag) w (undueCause rows last row))))
 
-abbrev pub stopBy : Header → ℕ → ℕ → List Descriptor → List Descriptor → ℕ → ℕ → ℕ → List ℕ → Stop
-stopBy Torn rows last before files count w place bytes = tornStop w place bytes
-stopBy (Whole h) rows last before files count w place bytes = headStop rows last before files count w h place bytes
+abbrev pub stopBy : Header → ℕ → ℕ → List Descriptor → ℕ → ℕ → ℕ → List ℕ → Stop
+stopBy Torn rows last files count w place bytes = tornStop w place bytes
+stopBy (Whole h) rows last files count w place bytes = headStop rows last files count w h place bytes
 
--- the grouping that bytes begin with, at a place of the order: rows, last tag and file table before it, the file table that it left,
--- and the card's word
-unfoldable pub stopOf : ℕ → ℕ → List Descriptor → List Descriptor → ℕ → ℕ → ℕ → List ℕ → Stop
-stopOf rows last before files count w place bytes = stopBy (headerOf bytes) rows last before files count w place bytes
+-- the grouping that bytes begin with, at a place of the order: rows, last tag and file table as it leaves them, and the card's word. One
+-- that is refused takes no row and no tag; only '3100' enters files, and rules a to g of '3100' read none
+unfoldable pub stopOf : ℕ → ℕ → List Descriptor → ℕ → ℕ → ℕ → List ℕ → Stop
+stopOf rows last files count w place bytes = stopBy (headerOf bytes) rows last files count w place bytes

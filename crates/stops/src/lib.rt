@@ -4,7 +4,7 @@ use flaws::Flaw;
 use model::Head;
 use model::Header;
 use model::Loading;
-use model::Verdict;
+use model::Spot;
 ghost use mathlib.Core.Path.{_≡_};
 ghost use Prim.Native.Nat.{_+_, _-_, _*_, _≤_, _<_};
 ghost use lib.ListN.{length, drop};
@@ -111,19 +111,19 @@ fn flaw_at(l: Loading, d: &[u8], start: usize) -> Flaw
     flaws::flaw_of(l, file)
 }
 
-// Rule h of '3100': the descriptor behind those that the loading part has after it.
-fn table_stop(after: Loading, w: u16, h: Head, d: &[u8], at: usize) -> Stop
-    requires { ⌜ (after .count ≤ 31) × (3 ≤ at) × (at + h .size ≤ length (now d)) × (length (now d) ≤ 8195) ⌝ }
-    ensures { λ r. ⌜ r ≡ tableStop (fileList after) (after .count) w h (at - 3) (drop at (now (d .entry))) ⌝ }
+// Rule h of '3100': the descriptor behind those that it left.
+fn table_stop(l: Loading, w: u16, h: Head, d: &[u8], at: usize) -> Stop
+    requires { ⌜ (l .count ≤ 31) × (3 ≤ at) × (at + h .size ≤ length (now d)) × (length (now d) ≤ 8195) ⌝ }
+    ensures { λ r. ⌜ r ≡ tableStop (fileList l) (l .count) w h (at - 3) (drop at (now (d .entry))) ⌝ }
 {
-    let start = h.size + after.count * DESCRIPTOR_SIZE;
-    let flaw = flaw_at(after, &d[at..], start);
+    let start = h.size + l.count * DESCRIPTOR_SIZE;
+    let flaw = flaw_at(l, &d[at..], start);
     Stop {
         place: at - FRONT_SIZE + start,
         tag: h.tag,
         word: w,
         cause: Cause::Descriptor {
-            index: after.count + 1,
+            index: l.count + 1,
             flaw: flaw,
         },
     }
@@ -143,12 +143,12 @@ fn stop_as(at: usize, h: Head, w: u16, cause: Cause) -> Stop
 }
 
 // Rule h: '3100' by its descriptor, else '2100', whose word tells which of its two tests.
-fn value_stop(after: Loading, w: u16, row: usize, h: Head, d: &[u8], at: usize) -> Stop
-    requires { ⌜ (after .count ≤ 31) × (3 ≤ at) × (at + h .size ≤ length (now d)) × (length (now d) ≤ 8195) ⌝ }
-    ensures { λ r. ⌜ r ≡ valueStop (fileList after) (after .count) w row h (at - 3) (drop at (now (d .entry))) ⌝ }
+fn value_stop(l: Loading, w: u16, row: usize, h: Head, d: &[u8], at: usize) -> Stop
+    requires { ⌜ (l .count ≤ 31) × (3 ≤ at) × (at + h .size ≤ length (now d)) × (length (now d) ≤ 8195) ⌝ }
+    ensures { λ r. ⌜ r ≡ valueStop (fileList l) (l .count) w row h (at - 3) (drop at (now (d .entry))) ⌝ }
 {
     if row == TABLE_ROW {
-        return table_stop(after, w, h, d, at);
+        return table_stop(l, w, h, d, at);
     }
     if w == 0x6A84 {
         return stop_as(at, h, w, Cause::Capacity);
@@ -157,26 +157,18 @@ fn value_stop(after: Loading, w: u16, row: usize, h: Head, d: &[u8], at: usize) 
 }
 
 // Rules f and g, and what follows.
-fn length_stop(
-    after: Loading,
-    w: u16,
-    row: usize,
-    room: usize,
-    h: Head,
-    d: &[u8],
-    at: usize,
-) -> Stop
-    requires { ⌜ (after .count ≤ 31) × (1 ≤ row) × (row ≤ 11) × (3 ≤ at) × (at + h .size ≤ length (now d)) × (length (now d) ≤ 8195) ⌝ }
-    ensures { λ r. ⌜ r ≡ lengthStop (fileList after) (after .count) w row room h (at - 3) (drop at (now (d .entry))) ⌝ }
+fn length_stop(l: Loading, w: u16, row: usize, room: usize, h: Head, d: &[u8], at: usize) -> Stop
+    requires { ⌜ (l .count ≤ 31) × (1 ≤ row) × (row ≤ 11) × (3 ≤ at) × (at + h .size ≤ length (now d)) × (length (now d) ≤ 8195) ⌝ }
+    ensures { λ r. ⌜ r ≡ lengthStop (fileList l) (l .count) w row room h (at - 3) (drop at (now (d .entry))) ⌝ }
 {
     let x = rows::row_at(row);
     if values::fits_row(x, room, h.len) {
         let left = d.len() - at - h.size;
         if x.spans {
-            return value_stop(after, w, row, h, d, at);
+            return value_stop(l, w, row, h, d, at);
         }
         if h.len <= left {
-            return value_stop(after, w, row, h, d, at);
+            return value_stop(l, w, row, h, d, at);
         }
         return stop_as(at, h, w, Cause::CutShort(h.len - left));
     }
@@ -192,21 +184,22 @@ fn length_stop(
 }
 
 // Rule e, and what follows.
-fn room_stop(l: Loading, after: Loading, w: u16, row: usize, h: Head, d: &[u8], at: usize) -> Stop
-    requires { ⌜ (l .count ≤ 31) × (after .count ≤ 31) × (1 ≤ row) × (row ≤ 11) × (3 ≤ at) × (at + h .size ≤ length (now d)) × (length (now d) ≤ 8195) ⌝ }
-    ensures { λ r. ⌜ r ≡ roomStop (fileList l) (roomOf (fileList l) row (h .tag)) (fileList after) (after .count) w row h (at - 3) (drop at (now (d .entry))) ⌝ }
+fn room_stop(l: Loading, w: u16, row: usize, h: Head, d: &[u8], at: usize) -> Stop
+    requires { ⌜ (l .count ≤ 31) × (1 ≤ row) × (row ≤ 11) × (3 ≤ at) × (at + h .size ≤ length (now d)) × (length (now d) ≤ 8195) ⌝ }
+    ensures { λ r. ⌜ r ≡ roomStop (roomOf (fileList l) row (h .tag)) (fileList l) (l .count) w row h (at - 3) (drop at (now (d .entry))) ⌝ }
 {
-    let verdict = rules::room_of(l, row, h.tag);
-    match verdict {
-        Verdict::Passes(room) => length_stop(after, w, row, room, h, d, at),
-        Verdict::Refuses(_) => stop_as(at, h, w, absent_cause(l, h.tag)),
+    let spot = places::spot_at(l, h.tag);
+    let room = rules::room_of(spot, row);
+    match room {
+        Spot::At { base: _, size } => length_stop(l, w, row, size, h, d, at),
+        Spot::Nowhere => stop_as(at, h, w, absent_cause(l, h.tag)),
     }
 }
 
 // Rules b to h.
-fn head_stop(l: Loading, after: Loading, w: u16, h: Head, d: &[u8], at: usize) -> Stop
-    requires { ⌜ (l .count ≤ 31) × (after .count ≤ 31) × (3 ≤ at) × (at + h .size ≤ length (now d)) × (length (now d) ≤ 8195) ⌝ }
-    ensures { λ r. ⌜ r ≡ headStop (l .rows) (l .last) (fileList l) (fileList after) (after .count) w h (at - 3) (drop at (now (d .entry))) ⌝ }
+fn head_stop(l: Loading, w: u16, h: Head, d: &[u8], at: usize) -> Stop
+    requires { ⌜ (l .count ≤ 31) × (3 ≤ at) × (at + h .size ≤ length (now d)) × (length (now d) ≤ 8195) ⌝ }
+    ensures { λ r. ⌜ r ≡ headStop (l .running .rows) (l .running .last) (fileList l) (l .count) w h (at - 3) (drop at (now (d .entry))) ⌝ }
 {
     if header::is_query(h.tag) {
         return stop_as(at, h, w, Cause::Query);
@@ -215,10 +208,10 @@ fn head_stop(l: Loading, after: Loading, w: u16, h: Head, d: &[u8], at: usize) -
     if row == 0 {
         return stop_as(at, h, w, Cause::UnknownTag);
     }
-    if due::is_due(l.rows, l.last, row, h.tag) {
-        return room_stop(l, after, w, row, h, d, at);
+    if due::is_due(l.running.rows, l.running.last, row, h.tag) {
+        return room_stop(l, w, row, h, d, at);
     }
-    let cause = undue_cause(l.rows, l.last, row);
+    let cause = undue_cause(l.running.rows, l.running.last, row);
     stop_as(at, h, w, cause)
 }
 
@@ -253,15 +246,15 @@ fn torn_stop(w: u16, d: &[u8], at: usize) -> Stop
     }
 }
 
-// Why the grouping at `at` of a command's data is not taken: the loading part before it and after it, and the card's word.
-// Three bytes of the data, those of '9484', stand before the order.
-pub fn stop_at(l: Loading, after: Loading, w: u16, d: &[u8], at: usize) -> Stop
-    requires { ⌜ (l .count ≤ 31) × (after .count ≤ 31) × (3 ≤ at) × (at < length (now d)) × (length (now d) ≤ 8195) ⌝ }
-    ensures { λ r. ⌜ r ≡ stopOf (l .rows) (l .last) (fileList l) (fileList after) (after .count) w (at - 3) (drop at (now (d .entry))) ⌝ }
+// Why the grouping at `at` of a command's data is not taken, by the loading part that it leaves and the card's word. Three
+// bytes of the data, those of '9484', stand before the order.
+pub fn stop_at(l: Loading, w: u16, d: &[u8], at: usize) -> Stop
+    requires { ⌜ (l .count ≤ 31) × (3 ≤ at) × (at < length (now d)) × (length (now d) ≤ 8195) ⌝ }
+    ensures { λ r. ⌜ r ≡ stopOf (l .running .rows) (l .running .last) (fileList l) (l .count) w (at - 3) (drop at (now (d .entry))) ⌝ }
 {
     let header = header::header_at(d, at);
     match header {
-        Header::Whole(h) => head_stop(l, after, w, h, d, at),
+        Header::Whole(h) => head_stop(l, w, h, d, at),
         Header::Torn => torn_stop(w, d, at),
     }
 }

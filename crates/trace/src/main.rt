@@ -281,8 +281,15 @@ fn put_event(out: &mut [u8], at: usize, p: Played, answer: &[u8]) -> usize
     ensures { λ r. ⌜ r ≤ at + 384 ⌝ }
 {
     let load = p.card.loading;
-    let first = put_states(out, at, p.number, p.word, p.card.life, load.internal);
-    let second = put_value(out, first, WORD, load.rows as u64);
+    let first = put_states(
+        out,
+        at,
+        p.number,
+        p.word,
+        p.card.life,
+        load.running.internal,
+    );
+    let second = put_value(out, first, WORD, load.running.rows as u64);
     put_front(out, second, answer, p.answered)
 }
 
@@ -292,7 +299,8 @@ fn put_loading(out: &mut [u8], at: usize, l: Loading) -> usize
     ensures { λ r. ⌜ r ≤ at + 2100 ⌝ }
 {
     let files = l.files;
-    let pending = l.pending;
+    let running = l.running;
+    let pending = running.pending;
     let first = put_facts(out, at, l);
     let second = put_table(out, first, files, l.count);
     let third = put_open(out, second, pending);

@@ -13,7 +13,7 @@ use Rattle.model.specs.Rules.{roomOf, lengthOk}
 use Rattle.soundness.proofs.Tests.{and-l, and-r}
 use Rattle.soundness.proofs.Taking.{by-row}
 use Rattle.soundness.proofs.RowFacts.{room-most}
-use Rattle.records.specs.Steps.{Sized}
+use Rattle.steps.specs.Stages.{Sized}
 
 -- no row's step is 0
 pub row-steps : (r : ℕ) → 1 ≤ r → r ≤ 11 → 1 ≤ rowAt r .step
@@ -31,11 +31,18 @@ row-sizes n =
     by-row (Sizes n) (λ e a b. omega arith) (λ e a b. omega arith) (λ e a b. omega arith) (λ e a b. omega arith) (λ e a b. absurd (true≢false e))
     (λ e a b. omega arith) (λ e a b. omega arith) (λ e a b. omega arith) (λ e a b. omega arith) (λ e a b. omega arith) (λ e a b. absurd (true≢false e))
 
+spans-11 : (r : ℕ) → r ≡ 11 → rowAt r .spans ≡ true
+unfolding rowAt rowTable
+spans-11 r e = rw e
+
 -- what rules e and f passed of such a row
-pub sized-of : (files : List Descriptor) (tag room n r : ℕ) → 1 ≤ r → r ≤ 11 → rowAt r .spans ≡ false → roomOf files r tag ≡ Passes room
-    → lengthOk r room n ≡ true → Sized r n
-sized-of files tag room n r a b e p h =
-    let m = room-most files tag room r a b e p in
+pub sized-of : (room n r : ℕ) → 1 ≤ r → r ≤ 11 → rowAt r .spans ≡ false → ((r ≡ 11 → ⊥) → room ≡ rowAt r .most) → lengthOk r room n ≡ true → Sized r n
+sized-of room n r a b e p h =
+    let m : room ≡ rowAt r .most = p (λ q. absurd (true≢false (sym (spans-11 r q) ∙ e))) in
     let x : rowAt r .least ≤ n = leb-true (rowAt r .least) n (search (and-l, and-r)) in
     let y : n ≤ room = leb-true n room (search (and-l, and-r)) in
     row-sizes n r a b e x (omega arith)
+
+-- a value has its room
+pub fits-most : (r room n : ℕ) → lengthOk r room n ≡ true → n ≤ room
+fits-most r room n h = leb-true n room (search (and-l, and-r))

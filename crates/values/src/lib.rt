@@ -1,49 +1,43 @@
 // A grouping's value, by rules f to h: its length, whether it is whole, its bytes.
 use model::Head;
-use model::Loading;
 use model::Open;
 use model::Row;
+use model::Running;
+use steps::Course;
 use steps::Step;
 ghost use mathlib.Core.Path.{_≡_};
 ghost use mathlib.Core.Bool.{true};
-ghost use Prim.Native.Nat.{_+_, _≤_};
+ghost use mathlib.Core.List.{List};
+ghost use Prim.Native.Nat.{ℕ, _+_, _≤_, _<_};
 ghost use lib.ListN.{length, drop};
-ghost use Rattle.model.specs.declared.Open.the-variants.{Shut};
+ghost use Rattle.model.specs.declared.Loading.{Loading};
+ghost use Rattle.model.specs.Stored.{areaSize};
 ghost use Rattle.model.specs.Rows.{rowAt};
-ghost use Rattle.model.specs.Rules.{spanned};
-ghost use Rattle.soundness.specs.Keeps.{Ruled};
-ghost use Rattle.steps.specs.Steps.{stateOf, stepped, Sure};
-ghost use Rattle.records.specs.Steps.{fromF, fitsRow, Roomed};
+ghost use Rattle.model.specs.Rules.{spanned, lengthOk};
+ghost use Rattle.steps.specs.Stages.{fromF, fitsRow};
+ghost use Rattle.steps.specs.Steps.{on, Judges, Roomed};
 
 const TABLE_ROW: usize = 5;
 
-// Rule h of a value that may run on; it begins at `at`.
-fn spanned_at(
-    l: Loading,
-    area: &mut [u8],
-    row: usize,
-    h: Head,
-    d: &[u8],
-    at: usize,
-    room: usize,
-) -> Step
-    requires { ⌜ Sure l (now area) × (l .pending ≡ Shut) × Ruled (stateOf l (now area)) h row room × (rowAt row .spans ≡ true) × (at ≤ length (now d)) ⌝ }
-    ensures { λ r. ⌜ stepped r (now (d .entry)) (now (area .exit)) ≡ spanned row h (drop at (now (d .entry))) (stateOf l (now (area .entry))) ⌝ }
+// Rule h of a value that may run on; it begins at `at`, and a record that it is for at `base`.
+fn spanned_at(p: Running, row: usize, base: usize, h: Head, d: &[u8], at: usize) -> Step
+    requires { ⌜ (1 ≤ row) × (row ≤ 11) × (rowAt row .spans ≡ true) × (base + h .len ≤ areaSize) × (at ≤ length (now d)) ⌝ }
+    ensures { λ r. ⌜ ((capacity place room : ℕ) (l : Loading) (a : List ℕ) → place < at → lengthOk row room (h .len) ≡ true → Roomed p (h .tag) row base room l a → Judges capacity r (now (d .entry)) place l a (spanned row h (drop at (now (d .entry))) (on p l a))) ⌝ }
 {
     let len = h.len;
     if row == TABLE_ROW {
-        let held = l.held;
-        let open = steps::with_open(
-            l,
-            Open::Table {
-                held: 0,
-                missing: len,
-            },
-            held,
-        );
-        return feed::table_fed(open, d, at, len);
+        return Step {
+            course: Course::Feeds(at),
+            running: steps::with_open(
+                p,
+                Open::Table {
+                    held: 0,
+                    missing: len,
+                },
+            ),
+        };
     }
-    laying::record_fed(l, area, d, at, h.tag, 0, len)
+    laying::record_step(p, base, h.tag, 0, len, d.len(), at)
 }
 
 pub fn fits_row(x: Row, room: usize, len: usize) -> bool
@@ -61,28 +55,28 @@ pub fn fits_row(x: Row, room: usize, len: usize) -> bool
 
 // Rules f, g and h; the grouping's header begins at `at`.
 pub fn from_f(
-    l: Loading,
-    area: &mut [u8],
+    p: Running,
     capacity: u8,
     row: usize,
+    base: usize,
     room: usize,
     h: Head,
     d: &[u8],
     at: usize,
 ) -> Step
-    requires { ⌜ Sure l (now area) × (l .pending ≡ Shut) × Roomed (stateOf l (now area)) h row room × (at + h .size ≤ length (now d)) ⌝ }
-    ensures { λ r. ⌜ stepped r (now (d .entry)) (now (area .exit)) ≡ fromF capacity row room h (drop at (now (d .entry))) (stateOf l (now (area .entry))) ⌝ }
+    requires { ⌜ (1 ≤ row) × (row ≤ 11) × (base + room ≤ areaSize) × ((row ≡ 11 → ⊥) → room ≡ rowAt row .most) × (1 ≤ h .size) × (at + h .size ≤ length (now d)) ⌝ }
+    ensures { λ r. ⌜ ((l : Loading) (a : List ℕ) → Roomed p (h .tag) row base room l a → Judges capacity r (now (d .entry)) at l a (fromF capacity row room h (drop at (now (d .entry))) (on p l a))) ⌝ }
 {
     let x = rows::row_at(row);
     let start = at + h.size;
     if fits_row(x, room, h.len) {
         if x.spans {
-            return spanned_at(l, area, row, h, d, start, room);
+            return spanned_at(p, row, base, h, d, start);
         }
         if h.len <= d.len() - start {
-            return content::whole_at(l, capacity, row, h, d, start);
+            return content::whole_at(p, capacity, row, h, d, start);
         }
-        return steps::failed_by(0x6A80, l);
+        return steps::failed_by(0x6A80, p);
     }
-    steps::failed_by(0x6700, l)
+    steps::failed_by(0x6700, p)
 }

@@ -1,52 +1,105 @@
-// A command's groupings, end to end.
-use model::Loading;
+// One step of a command: an open value's bytes, or one grouping.
+use model::Header;
+use model::Open;
+use model::Running;
+use model::Spot;
 use steps::Course;
 use steps::Step;
 ghost use mathlib.Core.Path.{_≡_};
-ghost use Prim.Native.Nat.{_-_, _≤_};
+ghost use mathlib.Core.List.{List};
+ghost use Prim.Native.Nat.{ℕ, _<_};
 ghost use lib.ListN.{length, drop};
-ghost use Rattle.model.specs.Command.{walk};
-ghost use Rattle.steps.specs.Steps.{stateOf};
-ghost use Rattle.records.specs.Steps.{ended, Walking};
+ghost use Rattle.model.specs.declared.Loading.{Loading};
+ghost use Rattle.model.specs.declared.Open.the-variants.{Record};
+ghost use Rattle.model.specs.declared.Spot.the-variants.{At};
+ghost use Rattle.model.specs.Stored.{areaSize};
+ghost use Rattle.model.specs.Loads.{fileList};
+ghost use Rattle.model.specs.Rules.{tagSpot};
+ghost use Rattle.soundness.proofs.Inside.{Steady};
+ghost use Rattle.steps.specs.Steps.{on, Judges, Within};
+ghost use Rattle.laying.specs.Records.{recordStep};
+ghost use Rattle.walk.specs.Turns.{headTag, wantedTag, Fits, stepOf};
 
-// Groupings end to end from `at` on: as many turns as there are bytes are enough.
-pub fn walked(l: Loading, area: &mut [u8], capacity: u8, p1: u8, d: &[u8], at: usize) -> Step
-    requires { ⌜ (at ≤ length (now d)) × Walking at (now d) (stateOf l (now area)) ⌝ }
-    ensures { λ r. ⌜ ended r (now (area .exit)) ≡ walk (length (now (d .entry)) - at) capacity (length (now (d .entry))) p1 (drop at (now (d .entry))) (stateOf l (now (area .entry))) ⌝ }
+// A tag that no record has.
+const NONE: u16 = 0x0000;
+
+// The tag of the record whose header comes at `at`.
+fn head_tag(d: &[u8], at: usize) -> u16
+    requires { ⌜ at < length (now d) ⌝ }
+    ensures { λ r. ⌜ r ≡ headTag (drop at (now (d .entry))) ⌝ }
 {
-    let mut load = l;
-    let mut i = at;
-    let mut turns = d.len() - at;
-    while 0 < turns {
-        // records first: a run of them leaves the rest of the loading part where it is
-        let run = records::run_from(load, area, d, i, turns);
-        load.last = run.last;
-        i = run.at;
-        turns = run.turns;
-        if d.len() <= i {
-            return Step {
-                course: Course::Went(i),
-                load: load,
-            };
+    let header = header::header_at(d, at);
+    match header {
+        Header::Whole(h) => {
+            let tag = h.tag;
+            if rows::is_record(tag) {
+                return tag;
+            }
+            NONE
         }
-        let s = rules::grouping_at(load, area, capacity, p1, d, i);
-        let course = s.course;
-        match course {
-            Course::Went(j) => {
-                load = s.load;
-                i = j;
-                turns -= 1;
-            }
-            Course::Asked(_) => {
-                return s;
-            }
-            Course::Failed(_) => {
-                return s;
-            }
-        }
+        Header::Torn => NONE,
     }
-    Step {
-        course: Course::Went(i),
-        load: load,
+}
+
+// The tag of the record that the next step is about, or 0: whoever has the file table finds its place.
+pub fn wanted(p: Running, d: &[u8], at: usize) -> u16
+    requires { ⌜ at < length (now d) ⌝ }
+    ensures { λ r. ⌜ r ≡ wantedTag (p .pending) (drop at (now (d .entry))) ⌝ }
+{
+    let pending = p.pending;
+    match pending {
+        Open::Shut => head_tag(d, at),
+        Open::Table {
+            held: _,
+            missing: _,
+        } => NONE,
+        Open::Record {
+            tag,
+            written: _,
+            missing: _,
+        } => tag,
+    }
+}
+
+// An open record's bytes; it lies at `spot`.
+fn record_at(
+    p: Running,
+    spot: Spot,
+    tag: u16,
+    written: usize,
+    missing: usize,
+    len: usize,
+    at: usize,
+) -> Step
+    requires { ⌜ (at < len) × Within spot × Fits (Record tag written missing) spot ⌝ }
+    ensures { λ r. ⌜ ((base size : ℕ) → spot ≡ At base size → r ≡ recordStep p base tag written missing len at) ⌝ }
+{
+    match spot {
+        Spot::At { base, size: _ } => laying::record_step(p, base, tag, written, missing, len, at),
+        // an open record is listed
+        Spot::Nowhere => steps::failed_by(0x6A88, p),
+    }
+}
+
+// One step; the record that is wanted lies at `spot`.
+pub fn step_at(spot: Spot, p: Running, capacity: u8, p1: u8, d: &[u8], at: usize) -> Step
+    requires { ⌜ (at < length (now d)) × Within spot × Fits (p .pending) spot ⌝ }
+    ensures { λ r. ⌜ ((l : Loading) (a : List ℕ) → Steady areaSize (on p l a) → spot ≡ tagSpot (fileList l) (wantedTag (p .pending) (drop at (now (d .entry)))) → Judges capacity r (now (d .entry)) at l a (stepOf capacity (length (now (d .entry))) p1 (drop at (now (d .entry))) (on p l a))) ⌝ }
+{
+    let pending = p.pending;
+    match pending {
+        Open::Shut => rules::grouping_at(spot, p, capacity, p1, d, at),
+        Open::Table {
+            held: _,
+            missing: _,
+        } => Step {
+            course: Course::Feeds(at),
+            running: p,
+        },
+        Open::Record {
+            tag,
+            written,
+            missing,
+        } => record_at(p, spot, tag, written, missing, d.len(), at),
     }
 }

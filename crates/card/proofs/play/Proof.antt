@@ -2,7 +2,7 @@ use mathlib.Core.Path.{sym, _∙_}
 use native.Mathlib.Omega.{arith}
 use borrow.Author.Needs.{needs}
 use borrow.Author.Tests.{eq-eqb, ne-eqb, lt-ltb, le-ltb}
-use Rattle.brief.proofs.Replies.{refused}
+use Rattle.events.proofs.Replies.{refused}
 use Rattle.model.specs.Session.{playOf}
 use Rattle.card.proofs.play.Statement.{statement}
 use Rattle.card.proofs.play.Tie as tie

@@ -15,9 +15,9 @@ is-shut-requires c κs = search needs
 
 returns-2 : tie.Need-returns-2
 returns-2 c =
-    let mandatory-missing = c .before .before .mandatory-missing in
-    let args = c .before .before .before .args in
-    λ a. ready-so (args .l) a (c .is-shut .result) (sym (mandatory-missing .ensures) ∙ c .before .if1 .left) (c .is-shut .ensures)
+    let mandatory-missing = c .before .before .before .mandatory-missing in
+    let args = c .before .before .before .before .args in
+    λ a. ready-so (args .l) a (c .is-shut .result) (sym (mandatory-missing .ensures) ∙ c .before .before .if1 .left) (c .is-shut .ensures)
 
 pub is-ready-spec : {M : Type 1} → statement M
 is-ready-spec = tie.close (tie.spec mandatory-missing-requires returns is-shut-requires returns-2)

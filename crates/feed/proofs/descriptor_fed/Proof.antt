@@ -1,16 +1,30 @@
+use Prim.Native.Nat.{ℕ, suc, _+_, _*_, _-_, _≤_, _<_, _/_, _%_}
+use mathlib.Core.Path.{_≡_, refl, ap, sym, _∙_}
+use mathlib.Core.List.{List, [], _∷_, _++_}
 use native.Mathlib.Omega.{arith}
-use native.Mathlib.Nat.{le-refl}
+use native.Mathlib.Numerals.{add-one}
+use lib.ListN.{length, take, drop, set, getD, length-set, length-take, length-drop, length-append}
+use denote.Ref.{now}
 use borrow.Author.Needs.{needs}
-use Rattle.feed.proofs.Laws.{opened, holds, ends}
 use Rattle.feed.proofs.descriptor_fed.Statement.{statement}
 use Rattle.feed.proofs.descriptor_fed.Tie as tie
+use Rattle.feed.proofs.descriptor_fed.Reads as reads
+use Rattle.feed.proofs.descriptor_fed.Lts as lts
+use Rattle.bytes.proofs.least.Reads as least-reads
+use Rattle.feed.proofs.held_of.Reads as held-of-reads
+use Rattle.feed.proofs.last_byte.Reads as last-byte-reads
+use Rattle.feed.proofs.stashed.Reads as stashed-reads
+use Rattle.steps.proofs.with_open.Reads as with-open-reads
+use native.Mathlib.Nat.{le-refl}
+use Rattle.model.specs.Loads.{withProgress}
+use Rattle.feed.proofs.Laws.{opened, holds, ends}
 
 held-of-requires : tie.Need-held-of-requires
 held-of-requires c κs = search needs
 
 sub-least : tie.Need-sub-least
 sub-least c =
-    let s = c .before .before in
+    let s = c .before .before .before in
     omega (arith, opened _ _ _ _ _ (c .held-of .ensures) (s .pre .0) (s .pre .1) (s .pre .3) .1)
 
 sub-least-2 : tie.Need-sub-least-2
@@ -34,7 +48,7 @@ part-stashed-end c = search needs
 stashed-requires : tie.Need-stashed-requires
 stashed-requires c κs =
     let o = c .before .before .before in
-    let s = o .before .before in
+    let s = o .before .before .before in
     let f = opened _ _ _ _ _ (o .held-of .ensures) (s .pre .0) (s .pre .1) (s .pre .3) .1 in
     search needs
 
@@ -50,13 +64,11 @@ with-open-requires c κs = search needs
 returns : tie.Need-returns
 returns c =
     let w = c .before in
-    let n = w .before .before .before .before in
+    let n = c .before .before .before .before .before in
     let o = n .before in
-    let s = o .before .before in
+    let s = o .before .before .before in
     let f = opened _ _ _ _ _ (o .held-of .ensures) (s .pre .0) (s .pre .1) (s .pre .3) in
-    let k = rw (w .before .stashed .ensures) at (w .with-open .ensures) in
-    λ a.
-    let h = holds _ _ _ _ _ _ (n .least .ensures) (f .1) (s .pre .1) (s .pre .2) _ _ (f .0) k a in
+    λ a. let h = holds (now (s .args .d)) (s .args .at) (s .args .end) (o .held-of .result) (s .args .missing) (n .least .result) (n .least .ensures) (f .1) (s .pre .1) (s .pre .2) (s .args .l) (withProgress (w .with-open .result) (w .before .stashed .result) (s .args .l)) (f .0) (rw (w .with-open .ensures, w .before .stashed .ensures)) a in
     (s .pre .1, le-refl _, rw (← c .if1 .taken) h)
 
 sub-last-byte-2 : tie.Need-sub-last-byte-2
@@ -73,23 +85,21 @@ add-last-byte-2 c = search needs
 
 last-byte-requires : tie.Need-last-byte-requires
 last-byte-requires c κs =
-    let w = c .before .before in
-    let o = w .before .before .before .before .before in
-    let s = o .before .before in
+    let o = c .before .before .before .before .before .before .before in
+    let s = o .before .before .before in
     let f = opened _ _ _ _ _ (o .held-of .ensures) (s .pre .0) (s .pre .1) (s .pre .3) in
-    rw (w .with-open .ensures) (f .2, f .3)
+    (f .2, f .3)
 
 returns-2 : tie.Need-returns-2
 returns-2 c =
     let w = c .before .before .before in
-    let n = w .before .before .before .before in
+    let n = c .before .before .before .before .before .before .before in
     let o = n .before in
-    let s = o .before .before in
+    let s = o .before .before .before in
     let f = opened _ _ _ _ _ (o .held-of .ensures) (s .pre .0) (s .pre .1) (s .pre .3) in
-    let k = rw (w .before .stashed .ensures) at (w .with-open .ensures) in
-    let x = c .before .before .if1 .left in
     let t = c .last-byte in
-    λ a. ends _ _ _ _ _ _ (n .least .ensures) (f .1) (s .pre .1) (s .pre .2) _ _ (f .0) k a x (t .result) (t .ensures a)
+    λ a. ends (now (s .args .d)) (s .args .at) (s .args .end) (o .held-of .result) (s .args .missing) (n .least .result) (n .least .ensures) (f .1) (s .pre .1) (s .pre .2) (s .args .l) (withProgress (w .with-open .result) (w .before .stashed .result) (s .args .l)) (f .0) (rw (w .with-open .ensures, w .before .stashed .ensures)) a
+    (c .before .before .if1 .left) (t .result) (t .ensures a)
 
 pub descriptor-fed-spec : {M : Type 1} → statement M
 descriptor-fed-spec =

@@ -1,43 +1,32 @@
-use mathlib.Core.Path.{_∙_}
-use Rattle.steps.proofs.Values.{table-ends, table-goes-on}
+use Prim.Native.Nat.{ℕ, suc, _+_, _*_, _-_, _≤_, _<_, _/_, _%_}
+use mathlib.Core.Path.{_≡_, refl, ap, sym, _∙_}
+use mathlib.Core.List.{List, [], _∷_, _++_}
+use native.Mathlib.Omega.{arith}
+use native.Mathlib.Numerals.{add-one}
+use lib.ListN.{length, take, drop, set, getD, length-set, length-take, length-drop, length-append}
+use denote.Ref.{now}
 use borrow.Author.Needs.{needs}
 use Rattle.feed.proofs.entered.Statement.{statement}
 use Rattle.feed.proofs.entered.Tie as tie
+use Rattle.feed.proofs.entered.Reads as reads
+use Rattle.feed.proofs.entered.Lts as lts
+use Rattle.feed.proofs.table_run.Reads as table-run-reads
+use Rattle.feed.proofs.Bytes.{run-done}
 
-mul-files : tie.Need-mul-files
-mul-files c = search needs
+table-run-requires : tie.Need-table-run-requires
+table-run-requires c κs = search needs
 
-array-set-from-files : tie.Need-array-set-from-files
-array-set-from-files c = search needs
+mul-d : tie.Need-mul-d
+mul-d c = search needs
+
+element-set-from-d : tie.Need-element-set-from-d
+element-set-from-d c = search needs
 
 add-l : tie.Need-add-l
 add-l c = search needs
 
-with-open-requires : tie.Need-with-open-requires
-with-open-requires c κs = search needs
-
-with-taken-requires : tie.Need-with-taken-requires
-with-taken-requires c κs = search needs
-
 returns : tie.Need-returns
-returns c =
-    λ a. table-ends _ _ (c .before .before .if1 .taken) ∙ rw (c .with-taken .ensures, c .before .with-open .ensures)
-
-with-open-requires-2 : tie.Need-with-open-requires-2
-with-open-requires-2 c κs = search needs
-
-returns-2 : tie.Need-returns-2
-returns-2 c = λ a. table-goes-on _ _ (c .before .if1 .left) ∙ rw (c .with-open2 .ensures)
+returns c = λ a. run-done _ _ a ∙ rw (c .before .table-run .ensures)
 
 pub entered-spec : {M : Type 1} → statement M
-entered-spec =
-    tie.close
-    (tie.spec
-    mul-files
-    array-set-from-files
-    add-l
-    with-open-requires
-    with-taken-requires
-    returns
-    with-open-requires-2
-    returns-2)
+entered-spec = tie.close (tie.spec table-run-requires mul-d element-set-from-d add-l returns)

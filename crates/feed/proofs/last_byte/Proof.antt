@@ -3,7 +3,7 @@ use native.Mathlib.Omega.{arith}
 use lib.ListN.{length, take}
 use lib.Seq.{length-take-le}
 use Rattle.model.specs.Rules.{tableByte, went}
-use Rattle.steps.proofs.Values.{admitted-room}
+use Rattle.feed.proofs.Bytes.{admitted-room}
 use borrow.Author.Needs.{needs}
 use Rattle.feed.proofs.last_byte.Statement.{statement}
 use Rattle.feed.proofs.last_byte.Tie as tie

@@ -1,6 +1,6 @@
 use borrow.Author.Needs.{needs}
 use Rattle.model.specs.Stored.{paddedZero}
-use Rattle.kinds.specs.Brief.{fault}
+use Rattle.kinds.specs.Faults.{fault}
 use Rattle.kinds.proofs.fault_in.Statement.{statement}
 use Rattle.kinds.proofs.fault_in.Tie as tie
 

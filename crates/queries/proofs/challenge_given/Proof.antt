@@ -9,7 +9,7 @@ failed-by-requires c κs = search needs
 
 returns : tie.Need-returns
 unfolding challenged
-returns c = λ a. rw (c .failed-by .ensures, ne-eqb _ _ (c .before .if1 .taken))
+returns c = λ l a. rw (c .failed-by .ensures, ne-eqb _ _ (c .before .if1 .taken))
 
 is-due-requires : tie.Need-is-due-requires
 is-due-requires c κs = search needs
@@ -20,7 +20,7 @@ with-taken-requires c κs = search needs
 returns-2 : tie.Need-returns-2
 unfolding challenged
 returns-2 c =
-    λ a. rw (c .with-taken .ensures, eq-eqb _ _ (c .before .before .before .if1 .left), ← c .before .before .is-due .ensures, c .before .if2 .taken)
+    λ l a. rw (c .with-taken .ensures, eq-eqb _ _ (c .before .before .before .if1 .left), ← c .before .before .is-due .ensures, c .before .if2 .taken)
 
 failed-by-requires-2 : tie.Need-failed-by-requires-2
 failed-by-requires-2 c κs = search needs
@@ -28,7 +28,7 @@ failed-by-requires-2 c κs = search needs
 returns-3 : tie.Need-returns-3
 unfolding challenged
 returns-3 c =
-    λ a. rw (c .failed-by2 .ensures, eq-eqb _ _ (c .before .before .before .if1 .left), ← c .before .before .is-due .ensures, c .before .if2 .left)
+    λ l a. rw (c .failed-by2 .ensures, eq-eqb _ _ (c .before .before .before .if1 .left), ← c .before .before .is-due .ensures, c .before .if2 .left)
 
 pub challenge-given-spec : {M : Type 1} → statement M
 challenge-given-spec =

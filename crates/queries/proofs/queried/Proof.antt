@@ -10,7 +10,7 @@ failed-by-requires c κs = search needs
 
 returns : tie.Need-returns
 unfolding query
-returns c = λ bytes a e. rw (c .failed-by .ensures, not-first _ _ _ e (c .before .before .pre) (c .before .if1 .taken))
+returns c = λ bytes l a e. rw (c .failed-by .ensures, not-first _ _ _ e (c .before .before .pre) (c .before .if1 .taken))
 
 failed-by-requires-2 : tie.Need-failed-by-requires-2
 failed-by-requires-2 c κs = search needs
@@ -18,7 +18,7 @@ failed-by-requires-2 c κs = search needs
 returns-2 : tie.Need-returns-2
 unfolding query
 returns-2 c =
-    λ bytes a e. rw (c .failed-by2 .ensures, first _ _ _ e (c .before .before .before .if1 .left), ne-eqb _ _ (c .before .if2 .taken))
+    λ bytes l a e. rw (c .failed-by2 .ensures, first _ _ _ e (c .before .before .before .if1 .left), ne-eqb _ _ (c .before .if2 .taken))
 
 failed-by-requires-3 : tie.Need-failed-by-requires-3
 failed-by-requires-3 c κs = search needs
@@ -26,7 +26,7 @@ failed-by-requires-3 c κs = search needs
 returns-3 : tie.Need-returns-3
 unfolding query
 returns-3 c =
-    λ bytes a e. rw (c .failed-by3 .ensures, first _ _ _ e (c .before .before .before .before .before .if1 .left), eq-eqb _ _ (c .before .before .before .if2 .left), ne-eqb _ _ (c .before .if3 .taken))
+    λ bytes l a e. rw (c .failed-by3 .ensures, first _ _ _ e (c .before .before .before .before .before .if1 .left), eq-eqb _ _ (c .before .before .before .if2 .left), ne-eqb _ _ (c .before .if3 .taken))
 
 failed-by-requires-4 : tie.Need-failed-by-requires-4
 failed-by-requires-4 c κs = search needs
@@ -34,7 +34,7 @@ failed-by-requires-4 c κs = search needs
 returns-4 : tie.Need-returns-4
 unfolding query
 returns-4 c =
-    λ bytes a e. let s = c .before .before in
+    λ bytes l a e. let s = c .before .before in
     rw (c .failed-by4 .ensures, alone _ _ _ _ _ e (s .before .before .before .before .if1 .left) (s .before .before .if2 .left) (s .if3 .left), ne-eqb _ _ (c .before .if4 .taken))
 
 failed-by-requires-5 : tie.Need-failed-by-requires-5
@@ -43,7 +43,7 @@ failed-by-requires-5 c κs = search needs
 returns-5 : tie.Need-returns-5
 unfolding query
 returns-5 c =
-    λ bytes a e. let s = c .before .before .before in
+    λ bytes l a e. let s = c .before .before .before in
     rw (c .failed-by5 .ensures, alone _ _ _ _ _ e (s .before .before .before .before .if1 .left) (s .before .before .if2 .left) (s .if3 .left), eq-eqb _ _ (c .before .before .if4 .left), le-leb _ _ (c .before .if5 .taken))
 
 challenge-given-requires : tie.Need-challenge-given-requires
@@ -52,13 +52,13 @@ challenge-given-requires c κs = search needs
 returns-6 : tie.Need-returns-6
 unfolding query
 returns-6 c =
-    λ bytes a e. let s = c .before .before .before .before in
-    rw (c .challenge-given .ensures a, alone _ _ _ _ _ e (s .before .before .before .before .if1 .left) (s .before .before .if2 .left) (s .if3 .left), eq-eqb _ _ (c .before .before .before .if4 .left), lt-leb _ _ (c .before .before .if5 .left), eq-eqb _ _ (c .before .if6 .taken))
+    λ bytes l a e. let s = c .before .before .before .before in
+    rw (c .challenge-given .ensures l a, alone _ _ _ _ _ e (s .before .before .before .before .if1 .left) (s .before .before .if2 .left) (s .if3 .left), eq-eqb _ _ (c .before .before .before .if4 .left), lt-leb _ _ (c .before .before .if5 .left), eq-eqb _ _ (c .before .if6 .taken))
 
 returns-7 : tie.Need-returns-7
 unfolding query
 returns-7 c =
-    λ bytes a e. let s = c .before .before .before in
+    λ bytes l a e. let s = c .before .before .before in
     rw (alone _ _ _ _ _ e (s .before .before .before .before .if1 .left) (s .before .before .if2 .left) (s .if3 .left), eq-eqb _ _ (c .before .before .if4 .left), lt-leb _ _ (c .before .if5 .left), ne-eqb _ _ (c .if6 .left))
 
 pub queried-spec : {M : Type 1} → statement M

@@ -8,8 +8,8 @@ use Rattle.reasons.proofs.end_stop.Tie as tie
 enum-told : tie.Need-enum-told
 enum-told c = search needs
 
-sub-t9 : tie.Need-sub-t9
-sub-t9 c = search needs
+sub-t10 : tie.Need-sub-t10
+sub-t10 c = search needs
 
 enum-known-pending : tie.Need-enum-known-pending
 enum-known-pending c = search needs
@@ -19,20 +19,20 @@ enum-known-pending-2 c = search needs
 
 returns : tie.Need-returns
 returns c =
-    let s = c .before .before .args in
-    λ a. sym (ap (λ (o : Open). openStop o (s .size) (s .place) (s .l .rows)) (c .enum-told .given .1))
+    let s = c .before .before .before .args in
+    λ a. sym (ap (λ (o : Open). openStop o (s .size) (s .place) (s .l .running .rows)) (c .enum-told .given .1))
 
 returns-2 : tie.Need-returns-2
 returns-2 c =
-    let s = c .before .before .before .args in
-    λ a. sym (ap (λ (o : Open). openStop o (s .size) (s .place) (s .l .rows)) (c .before .pending .given .1))
+    let s = c .before .before .before .before .args in
+    λ a. sym (ap (λ (o : Open). openStop o (s .size) (s .place) (s .l .running .rows)) (c .before .pending .given .1))
 
 returns-3 : tie.Need-returns-3
 returns-3 c =
-    let s = c .before .before .before .args in
-    λ a. sym (ap (λ (o : Open). openStop o (s .size) (s .place) (s .l .rows)) (c .before .pending2 .given .1))
+    let s = c .before .before .before .before .args in
+    λ a. sym (ap (λ (o : Open). openStop o (s .size) (s .place) (s .l .running .rows)) (c .before .pending2 .given .1))
 
 pub end-stop-spec : {M : Type 1} → statement M
 end-stop-spec =
     tie.close
-    (tie.spec enum-told sub-t9 enum-known-pending enum-known-pending-2 returns returns-2 returns-3)
+    (tie.spec enum-told sub-t10 enum-known-pending enum-known-pending-2 returns returns-2 returns-3)

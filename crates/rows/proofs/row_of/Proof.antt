@@ -1,69 +1,54 @@
-use Prim.Native.Nat.{_+_, _-_, _≤_}
-use mathlib.Core.Path.{_≡_, refl, sym, _∙_}
+use Prim.Native.Nat.{ℕ}
+use mathlib.Core.Path.{_≡_, refl, ap, sym}
+use mathlib.Core.Bool.{Bool, cond, true, false, _&&_}
 use native.Mathlib.Omega.{arith}
-use lib.ListN.{drop}
-use borrow.Author.Needs.{needs}
+use lib.Dec.{leb}
+use borrow.Author.Tests.{lt-leb, leb-true}
+use Rattle.lists.specs.Choice.{cases}
+use Rattle.model.specs.Rows.{rowOf, rowFrom, rowTable}
+use Rattle.rows.proofs.Records.{record-row}
 use Rattle.rows.proofs.row_of.Statement.{statement}
 use Rattle.rows.proofs.row_of.Tie as tie
-use Rattle.rows.proofs.Missing.{row-step, row-end}
-use Rattle.model.specs.Rows.{rowOf, rowFrom, rowTable}
 
-abbrev Inv-loop : tie.InvT-loop
-Inv-loop tag i₀ i = (i ≤ 11) × (rowOf tag ≡ rowFrom tag (i + 1) (drop i rowTable))
+and-false : (a b : Bool) → (a ≡ true → b ≡ false) → (a && b) ≡ false
+and-false true b f = f refl
+and-false false b f = refl
 
-abbrev μ-loop : tie.MeasureT-loop
-μ-loop tag i₀ i = 11 - i
+-- a row of one tag has no other
+other : {t tag : ℕ} → (tag ≡ t → ⊥) → (leb t tag && leb tag t) ≡ false
+other {t = t} {tag = tag} d = and-false (leb t tag) (leb tag t) (λ e. let h = leb-true t tag e in lt-leb tag t (omega arith))
 
-loop-holds : tie.Need-loop-holds Inv-loop μ-loop
-unfolding rowOf
-loop-holds c = (search needs, refl)
+-- a tag that is none of the ten is unknown, unless it is a record's
+unnamed : (c : tie.At-match-rest) → rowOf (c .before .args .tag) ≡ cond (leb 0x0100 (c .before .args .tag) && leb (c .before .args .tag) 0x1EFF) 11 0
+unfolding rowOf rowFrom rowTable
+unnamed c =
+    let ((((((((((_, d1), d2), d3), d4), d5), d6), d7), d8), d9), d10) = c .match .rest in
+    rw (other d1, other d2, other d3, other d4, other d5, other d6, other d7, other d8, other d9, other d10)
 
-add-row-at : tie.Need-add-row-at Inv-loop μ-loop
-add-row-at c = search needs
+returns-11 : tie.Need-returns-11
+returns-11 c = (sym (record-row (c .before .before .before .args .tag) (omega arith) (omega arith)), omega arith)
 
-row-at-requires : tie.Need-row-at-requires Inv-loop μ-loop
-row-at-requires c κs = search needs
+returns-12 : tie.Need-returns-12
+returns-12 c = rw (unnamed (c .before)) (search cases, omega arith)
 
-has-tag-requires : tie.Need-has-tag-requires Inv-loop μ-loop
-has-tag-requires c κs = search needs
-
-add-result : tie.Need-add-result Inv-loop μ-loop
-add-result c = search needs
-
-returns : tie.Need-returns Inv-loop μ-loop
-returns c =
-    let row = c .before .before in
-    let l = row .before .before .loop in
-    (sym (l .inv .1 ∙ row-step _ (l .i) (omega arith) ∙ simp (← row .row-at .ensures, ← c .before .has-tag .ensures, c .if1 .taken)), omega arith)
-
-add-i : tie.Need-add-i Inv-loop μ-loop
-add-i c = search needs
-
-loop-less : tie.Need-loop-less Inv-loop μ-loop
-loop-less c = search needs
-
-loop-again : tie.Need-loop-again Inv-loop μ-loop
-loop-again c =
-    let row = c .before .before in
-    let l = row .before .before .loop in
-    (omega arith, l .inv .1 ∙ row-step _ (l .i) (omega arith) ∙ simp (← row .row-at .ensures, ← c .before .has-tag .ensures, c .if1 .left))
-
-returns-2 : tie.Need-returns-2 Inv-loop μ-loop
-returns-2 c = (sym (c .before .loop .inv .1 ∙ row-end _ (c .before .loop .i) (c .loop-test .left)), omega arith)
+returns-13 : tie.Need-returns-13
+returns-13 c = rw (unnamed (c .before .before)) (search cases, omega arith)
 
 pub row-of-spec : {M : Type 1} → statement M
+unfolding rowOf rowFrom rowTable
 row-of-spec =
     tie.close
     (tie.spec
-    Inv-loop
-    μ-loop
-    loop-holds
-    add-row-at
-    row-at-requires
-    has-tag-requires
-    add-result
-    returns
-    add-i
-    loop-less
-    loop-again
-    returns-2)
+    (λ c. (sym (ap rowOf (c .match .keys1)), omega arith))
+    (λ c. (sym (ap rowOf (c .match .keys2)), omega arith))
+    (λ c. (sym (ap rowOf (c .match .keys3)), omega arith))
+    (λ c. (sym (ap rowOf (c .match .keys4)), omega arith))
+    (λ c. (sym (ap rowOf (c .match .keys5)), omega arith))
+    (λ c. (sym (ap rowOf (c .match .keys6)), omega arith))
+    (λ c. (sym (ap rowOf (c .match .keys7)), omega arith))
+    (λ c. (sym (ap rowOf (c .match .keys8)), omega arith))
+    (λ c. (sym (ap rowOf (c .match .keys9)), omega arith))
+    (λ c. (sym (ap rowOf (c .match .keys10)), omega arith))
+    returns-11
+    returns-12
+    returns-13)

@@ -1,13 +1,20 @@
-use mathlib.Core.Path.{sym, _∙_}
-use lib.ListN.{length, drop, length-drop}
+use Prim.Native.Nat.{ℕ, suc, _+_, _*_, _-_, _≤_, _<_, _/_, _%_}
+use mathlib.Core.Path.{_≡_, refl, ap, sym, _∙_}
+use mathlib.Core.List.{List, [], _∷_, _++_}
+use native.Mathlib.Omega.{arith}
+use native.Mathlib.Numerals.{add-one}
+use lib.ListN.{length, take, drop, set, getD, length-set, length-take, length-drop, length-append}
 use denote.Ref.{now}
 use borrow.Author.Needs.{needs}
-use Rattle.model.specs.Rules.{query}
-use Rattle.records.specs.Steps.{fromC}
-use Rattle.steps.specs.Steps.{stateOf}
-use Rattle.records.proofs.Chains.{b-other, b-query, query-ends, query-stops}
 use Rattle.rules.proofs.from_b.Statement.{statement}
 use Rattle.rules.proofs.from_b.Tie as tie
+use Rattle.rules.proofs.from_b.Reads as reads
+use Rattle.rules.proofs.from_b.Lts as lts
+use Rattle.header.proofs.is_query.Reads as is-query-reads
+use Rattle.queries.proofs.queried.Reads as queried-reads
+use Rattle.rules.proofs.from_c.Reads as from-c-reads
+use Rattle.steps.specs.Steps.{on}
+use Rattle.steps.proofs.Chains.{b-query, b-other, query-ends, query-stops}
 
 is-query-requires : tie.Need-is-query-requires
 is-query-requires c κs = search needs
@@ -17,31 +24,20 @@ queried-requires c κs = search needs
 
 returns : tie.Need-returns
 returns c =
-    let is-query = c .before .before .is-query in
-    let s = c .before .before .before .before .before in
+    let s = c .before .before .before .before in
     let b = drop (s .args .at) (now (s .args .d)) in
-    let x = stateOf (s .args .l) (now (s .args .area)) in
-    let n = length (now (s .args .d)) in
-    query-stops (c .queried .result .course) (now (s .args .d)) (stateOf (c .queried .result .load) (now (s .args .area))) (query n (s .args .p1) b (s .args .h) x) (λ a. fromC (s .args .capacity) (s .args .h) b)
-    (c .queried .ensures b (now (s .args .area)) (length-drop (s .args .at) (now (s .args .d)))) (query-ends n (s .args .p1) b (s .args .h) x)
-    ∙ sym (b-query (s .args .capacity) n (s .args .p1) (s .args .h) b x (sym (is-query .ensures) ∙ c .before .if1 .taken))
+    λ l a k. rw (b-query (s .args .capacity) (length (now (s .args .d))) (s .args .p1) (s .args .h) (drop (s .args .at) (now (s .args .d))) (on (s .args .p) l a) (sym (c .before .before .is-query .ensures) ∙ c .before .if1 .taken))
+    (query-stops (s .args .capacity) _ (now (s .args .d)) (s .args .at) l a _ _ (c .queried .ensures b l a (length-drop (s .args .at) (now (s .args .d))))
+    (query-ends (length (now (s .args .d))) (s .args .p1) b (s .args .h) (on (s .args .p) l a)))
 
 from-c-requires : tie.Need-from-c-requires
 from-c-requires c κs = search needs
 
-same-length : tie.Need-same-length
-same-length c = search needs
-
 returns-2 : tie.Need-returns-2
 returns-2 c =
-    let from-c = c .before .before .from-c in
-    let if1 = c .before .before .before .before .if1 in
-    let is-query = c .before .before .before .before .before .is-query in
-    let s = c .before .before .before .before .before .before .before .before in
-    from-c .ensures
-    ∙ sym (b-other (s .args .capacity) (length (now (s .args .d))) (s .args .p1) (s .args .h) (drop (s .args .at) (now (s .args .d))) (stateOf (s .args .l) (now (s .args .area))) (sym (is-query .ensures) ∙ if1 .left))
+    let s = c .before .before .before .before in
+    λ l a k. rw (b-other (s .args .capacity) (length (now (s .args .d))) (s .args .p1) (s .args .h) (drop (s .args .at) (now (s .args .d))) (on (s .args .p) l a) (sym (c .before .before .is-query .ensures) ∙ c .before .if1 .left)) (c .from-c .ensures l a k)
 
 pub from-b-spec : {M : Type 1} → statement M
 from-b-spec =
-    tie.close
-    (tie.spec is-query-requires queried-requires returns from-c-requires same-length returns-2)
+    tie.close (tie.spec is-query-requires queried-requires returns from-c-requires returns-2)

@@ -1,12 +1,22 @@
-use mathlib.Core.Path.{sym, _∙_}
-use lib.ListN.{drop}
+use Prim.Native.Nat.{ℕ, suc, _+_, _*_, _-_, _≤_, _<_, _/_, _%_}
+use mathlib.Core.Path.{_≡_, refl, ap, sym, _∙_}
+use mathlib.Core.List.{List, [], _∷_, _++_}
+use native.Mathlib.Omega.{arith}
+use native.Mathlib.Numerals.{add-one}
+use lib.ListN.{length, take, drop, set, getD, length-set, length-take, length-drop, length-append}
 use denote.Ref.{now}
 use borrow.Author.Needs.{needs}
-use Rattle.soundness.proofs.Walks.{dueRow-passes}
-use Rattle.steps.specs.Steps.{stateOf}
-use Rattle.records.proofs.Chains.{d-passes, d-refuses}
 use Rattle.rules.proofs.from_d.Statement.{statement}
 use Rattle.rules.proofs.from_d.Tie as tie
+use Rattle.rules.proofs.from_d.Reads as reads
+use Rattle.rules.proofs.from_d.Lts as lts
+use Rattle.due.proofs.due_row.Reads as due-row-reads
+use Rattle.rules.proofs.from_e.Reads as from-e-reads
+use Rattle.steps.proofs.failed_by.Reads as failed-by-reads
+use Rattle.steps.specs.Steps.{on, Judges, Dued}
+use Rattle.steps.proofs.Chains.{d-passes, d-refuses}
+use Rattle.soundness.proofs.Walks.{dueRow-passes}
+use Rattle.rules.proofs.Facts.{row-its}
 
 due-row-requires : tie.Need-due-row-requires
 due-row-requires c κs = search needs
@@ -16,10 +26,9 @@ enum-known-verdict c = search needs
 
 from-e-requires : tie.Need-from-e-requires
 from-e-requires c κs =
-    let s = c .before .before .before .before .before .before .before in
-    let e = sym (c .before .before .before .before .due-row .ensures) ∙ c .before .before .verdict .given .1 in
-    let p = dueRow-passes (s .args .l .rows) (s .args .l .last) (s .args .h .tag) _ e in
-    (s .pre .0, s .pre .1, record { least = p .0; most = p .1; personal = s .pre .2; rowDue = p .2 }, s .pre .3)
+    let s = c .before .before .before .before .before in
+    let q = dueRow-passes _ _ _ _ (sym (c .before .before .before .due-row .ensures) ∙ c .before .verdict .given .1) in
+    (q .0, q .1, s .pre .0, s .pre .1, s .pre .2)
 
 enum-known-verdict-2 : tie.Need-enum-known-verdict-2
 enum-known-verdict-2 c = search needs
@@ -27,26 +36,18 @@ enum-known-verdict-2 c = search needs
 failed-by-requires : tie.Need-failed-by-requires
 failed-by-requires c κs = search needs
 
-same-length : tie.Need-same-length
-same-length c = search needs
-
 returns : tie.Need-returns
 returns c =
-    let from-e = c .before .before .from-e in
-    let verdict = c .before .before .before .before .before .verdict in
-    let due-row = c .before .before .before .before .before .before .before .due-row in
-    let s = c .before .before .before .before .before .before .before .before .before .before in
-    let e = sym (due-row .ensures) ∙ verdict .given .1 in
-    from-e .ensures ∙ sym (d-passes (s .args .capacity) (s .args .h) (drop (s .args .at) (now (s .args .d))) (stateOf (s .args .l) (now (s .args .area))) _ e)
+    let s = c .before .before .before .before .before .before in
+    let e = sym (c .before .before .before .before .due-row .ensures) ∙ c .before .before .verdict .given .1 in
+    let q = dueRow-passes _ _ _ _ e in
+    λ l a i k. rw (d-passes (s .args .capacity) (s .args .h) (drop (s .args .at) (now (s .args .d))) (on (s .args .p) l a) _ e) (c .from-e .ensures l a (record { stands = k; personal = i; rowDue = q .2; its = row-its _ _ _ _ e }))
 
 returns-2 : tie.Need-returns-2
 returns-2 c =
-    let verdict2 = c .before .before .verdict2 in
-    let due-row = c .before .before .before .before .due-row in
-    let s = c .before .before .before .before .before .before .before in
-    let e = sym (due-row .ensures) ∙ verdict2 .given .1 in
-    rw (c .failed-by .ensures)
-    (sym (d-refuses (s .args .capacity) (s .args .h) (drop (s .args .at) (now (s .args .d))) (stateOf (s .args .l) (now (s .args .area))) _ e))
+    let s = c .before .before .before .before .before .before in
+    let e = sym (c .before .before .before .before .due-row .ensures) ∙ c .before .before .verdict2 .given .1 in
+    λ l a i k. rw (c .failed-by .ensures) (record { comes = sym (d-refuses (s .args .capacity) (s .args .h) (drop (s .args .at) (now (s .args .d))) (on (s .args .p) l a) _ e); ahead = tt })
 
 pub from-d-spec : {M : Type 1} → statement M
 from-d-spec =
@@ -57,6 +58,5 @@ from-d-spec =
     from-e-requires
     enum-known-verdict-2
     failed-by-requires
-    same-length
     returns
     returns-2)

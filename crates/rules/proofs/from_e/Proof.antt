@@ -1,64 +1,61 @@
-use mathlib.Core.Path.{sym, _∙_}
-use lib.ListN.{drop}
+use Prim.Native.Nat.{ℕ, suc, _+_, _*_, _-_, _≤_, _<_, _/_, _%_}
+use mathlib.Core.Path.{_≡_, refl, ap, sym, _∙_}
+use mathlib.Core.List.{List, [], _∷_, _++_}
+use native.Mathlib.Omega.{arith}
+use native.Mathlib.Numerals.{add-one}
+use lib.ListN.{length, take, drop, set, getD, length-set, length-take, length-drop, length-append}
 use denote.Ref.{now}
 use borrow.Author.Needs.{needs}
-use Rattle.soundness.proofs.Parts.{sound-parts}
-use Rattle.steps.specs.Steps.{stateOf, activeLife}
-use Rattle.records.proofs.Chains.{e-passes, e-refuses}
 use Rattle.rules.proofs.from_e.Statement.{statement}
 use Rattle.rules.proofs.from_e.Tie as tie
+use Rattle.rules.proofs.from_e.Reads as reads
+use Rattle.rules.proofs.from_e.Lts as lts
+use Rattle.rules.proofs.room_of.Reads as room-of-reads
+use Rattle.steps.proofs.failed_by.Reads as failed-by-reads
+use Rattle.values.proofs.from_f.Reads as from-f-reads
+use Rattle.steps.specs.Steps.{on, Judges, Roomed}
+use Rattle.steps.proofs.Chains.{e-passes, e-refuses}
+use Rattle.rules.proofs.Facts.{room-within, room-most, roomed, unplaced}
 
 room-of-requires : tie.Need-room-of-requires
-room-of-requires c κs =
-    let s = c .before .before in
-    (s .pre .2 .least, s .pre .2 .most, sound-parts activeLife (s .args .l) (s .pre .0 .sound) .count)
+room-of-requires c κs = search needs
 
-enum-known-verdict : tie.Need-enum-known-verdict
-enum-known-verdict c = search needs
+enum-known-room : tie.Need-enum-known-room
+enum-known-room c = search needs
 
 from-f-requires : tie.Need-from-f-requires
 from-f-requires c κs =
-    let verdict = c .before .before .verdict in
-    let room-of = c .before .before .before .before .room-of in
-    let s = c .before .before .before .before .before .before .before in
-    (s .pre .0, s .pre .1, record { dued = s .pre .2; roomed = sym (room-of .ensures) ∙ verdict .given .1 }, s .pre .3)
+    let s = c .before .before .before .before .before in
+    let e = sym (c .before .before .before .room-of .ensures) ∙ c .before .room .given .1 in
+    (s .pre .0, s .pre .1, room-within _ _ _ _ e (s .pre .0) (s .pre .1) (s .pre .2), room-most _ _ _ _ e, s .pre .3, s .pre .4)
 
-enum-known-verdict-2 : tie.Need-enum-known-verdict-2
-enum-known-verdict-2 c = search needs
+enum-told : tie.Need-enum-told
+enum-told c = search needs
 
 failed-by-requires : tie.Need-failed-by-requires
 failed-by-requires c κs = search needs
 
-same-length : tie.Need-same-length
-same-length c = search needs
-
 returns : tie.Need-returns
 returns c =
-    let from-f = c .before .before .from-f in
-    let verdict = c .before .before .before .before .before .verdict in
-    let room-of = c .before .before .before .before .before .before .before .room-of in
-    let s = c .before .before .before .before .before .before .before .before .before .before in
-    let e = sym (room-of .ensures) ∙ verdict .given .1 in
-    from-f .ensures ∙ sym (e-passes (s .args .capacity) (s .args .row) (s .args .h) (drop (s .args .at) (now (s .args .d))) (stateOf (s .args .l) (now (s .args .area))) _ e)
+    let s = c .before .before .before .before .before .before in
+    let e = sym (c .before .before .before .before .room-of .ensures) ∙ c .before .before .room .given .1 in
+    λ l a k. let r = roomed _ _ _ _ e (s .args .p) (s .args .h .tag) l a k in
+    rw (e-passes (s .args .capacity) (s .args .row) (s .args .h) (drop (s .args .at) (now (s .args .d))) (on (s .args .p) l a) _ (r .roomed)) (c .from-f .ensures l a r)
 
 returns-2 : tie.Need-returns-2
 returns-2 c =
-    let verdict2 = c .before .before .verdict2 in
-    let room-of = c .before .before .before .before .room-of in
-    let s = c .before .before .before .before .before .before .before in
-    let e = sym (room-of .ensures) ∙ verdict2 .given .1 in
-    rw (c .failed-by .ensures)
-    (sym (e-refuses (s .args .capacity) (s .args .row) (s .args .h) (drop (s .args .at) (now (s .args .d))) (stateOf (s .args .l) (now (s .args .area))) _ e))
+    let s = c .before .before .before .before .before in
+    let e = sym (c .before .before .before .room-of .ensures) ∙ c .before .enum-told .given .1 in
+    λ l a k. rw (c .failed-by .ensures) (record { comes = sym (e-refuses (s .args .capacity) (s .args .row) (s .args .h) (drop (s .args .at) (now (s .args .d))) (on (s .args .p) l a) 0x6A88 (unplaced _ _ _ _ l a e k)); ahead = tt })
 
 pub from-e-spec : {M : Type 1} → statement M
 from-e-spec =
     tie.close
     (tie.spec
     room-of-requires
-    enum-known-verdict
+    enum-known-room
     from-f-requires
-    enum-known-verdict-2
+    enum-told
     failed-by-requires
-    same-length
     returns
     returns-2)

@@ -28,7 +28,7 @@ value-stop-requires c κs = search needs
 returns : tie.Need-returns
 returns c =
     let s = c .before .before .before .before .before .before .before .args in
-    c .value-stop .ensures ∙ sym (value-spans (fileList (s .after)) (s .after .count) (s .w) (s .row) (s .room) (s .h) (s .at - 3) (s .at) (now (s .d)) _ (c .before .before .before .before .before .row-at .ensures) (sym (c .before .before .before .before .fits-row .ensures) ∙ c .before .before .before .if1 .taken) (c .before .if2 .taken))
+    c .value-stop .ensures ∙ sym (value-spans (fileList (s .l)) (s .l .count) (s .w) (s .row) (s .room) (s .h) (s .at - 3) (s .at) (now (s .d)) _ (c .before .before .before .before .before .row-at .ensures) (sym (c .before .before .before .before .fits-row .ensures) ∙ c .before .before .before .if1 .taken) (c .before .if2 .taken))
 
 value-stop-requires-2 : tie.Need-value-stop-requires-2
 value-stop-requires-2 c κs = search needs
@@ -36,7 +36,7 @@ value-stop-requires-2 c κs = search needs
 returns-2 : tie.Need-returns-2
 returns-2 c =
     let s = c .before .before .before .before .before .before .before .before .before .args in
-    c .value-stop2 .ensures ∙ sym (value-whole (fileList (s .after)) (s .after .count) (s .w) (s .row) (s .room) (s .h) (s .at - 3) (s .at) (now (s .d)) _ (c .before .before .before .before .before .before .before .row-at .ensures) (sym (c .before .before .before .before .before .before .fits-row .ensures) ∙ c .before .before .before .before .before .if1 .taken) (c .before .before .before .if2 .left) (c .before .if3 .taken))
+    c .value-stop2 .ensures ∙ sym (value-whole (fileList (s .l)) (s .l .count) (s .w) (s .row) (s .room) (s .h) (s .at - 3) (s .at) (now (s .d)) _ (c .before .before .before .before .before .before .before .row-at .ensures) (sym (c .before .before .before .before .before .before .fits-row .ensures) ∙ c .before .before .before .before .before .if1 .taken) (c .before .before .before .if2 .left) (c .before .if3 .taken))
 
 sub-t11 : tie.Need-sub-t11
 sub-t11 c = search needs
@@ -47,7 +47,7 @@ stop-as-requires c κs = search needs
 returns-3 : tie.Need-returns-3
 returns-3 c =
     let s = c .before .before .before .before .before .before .before .before .before .before .args in
-    c .stop-as .ensures ∙ sym (value-short (fileList (s .after)) (s .after .count) (s .w) (s .row) (s .room) (s .h) (s .at - 3) (s .at) (now (s .d)) _ (c .before .before .before .before .before .before .before .before .row-at .ensures) (sym (c .before .before .before .before .before .before .before .fits-row .ensures) ∙ c .before .before .before .before .before .before .if1 .taken) (c .before .before .before .before .if2 .left) (c .before .before .if3 .left))
+    c .stop-as .ensures ∙ sym (value-short (fileList (s .l)) (s .l .count) (s .w) (s .row) (s .room) (s .h) (s .at - 3) (s .at) (now (s .d)) _ (c .before .before .before .before .before .before .before .before .row-at .ensures) (sym (c .before .before .before .before .before .before .before .fits-row .ensures) ∙ c .before .before .before .before .before .before .if1 .taken) (c .before .before .before .before .if2 .left) (c .before .before .if3 .left))
 
 stop-as-requires-2 : tie.Need-stop-as-requires-2
 stop-as-requires-2 c κs = search needs
@@ -55,7 +55,7 @@ stop-as-requires-2 c κs = search needs
 returns-4 : tie.Need-returns-4
 returns-4 c =
     let s = c .before .before .before .before .before .args in
-    c .stop-as2 .ensures ∙ sym (value-wrong (fileList (s .after)) (s .after .count) (s .w) (s .row) (s .room) (s .h) (s .at - 3) (s .at) (now (s .d)) _ (c .before .before .before .row-at .ensures) (sym (c .before .before .fits-row .ensures) ∙ c .before .if1 .left))
+    c .stop-as2 .ensures ∙ sym (value-wrong (fileList (s .l)) (s .l .count) (s .w) (s .row) (s .room) (s .h) (s .at - 3) (s .at) (now (s .d)) _ (c .before .before .before .row-at .ensures) (sym (c .before .before .fits-row .ensures) ∙ c .before .if1 .left))
 
 pub length-stop-spec : {M : Type 1} → statement M
 length-stop-spec =

@@ -2,7 +2,7 @@ use mathlib.Core.Path.{sym, _∙_}
 use native.Mathlib.Omega.{arith}
 use denote.Ref.{now}
 use borrow.Author.Needs.{needs}
-use Rattle.records.proofs.Chains.{header-within}
+use Rattle.steps.proofs.Chains.{header-within}
 use Rattle.stops.specs.Stops.{stopOf}
 use Rattle.stops.proofs.stop_at.Statement.{statement}
 use Rattle.stops.proofs.stop_at.Tie as tie
@@ -17,7 +17,7 @@ head-stop-requires : tie.Need-head-stop-requires
 head-stop-requires c κs =
     let s = c .before .before .before .before .before in
     let e = sym (c .before .before .before .header-at .ensures) ∙ c .before .header .given .1 in
-    (s .pre .0, s .pre .1, s .pre .2, header-within (now (s .args .d)) (s .args .at) _ (omega arith) e, s .pre .4)
+    (s .pre .0, s .pre .1, header-within (now (s .args .d)) (s .args .at) _ (omega arith) e, s .pre .3)
 
 enum-told : tie.Need-enum-told
 enum-told c = search needs

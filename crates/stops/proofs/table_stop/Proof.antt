@@ -37,7 +37,7 @@ returns : tie.Need-returns
 unfolding tableStop
 returns c =
     let s = c .before .before .before .before .before .before in
-    table-so (fileList (s .args .after)) (s .args .after .count) (s .args .w) (s .args .h) (s .args .at) (now (s .args .d)) (c .before .flaw-at .result) (c .before .flaw-at .ensures)
+    table-so (fileList (s .args .l)) (s .args .l .count) (s .args .w) (s .args .h) (s .args .at) (now (s .args .d)) (c .before .flaw-at .result) (c .before .flaw-at .ensures)
 
 pub table-stop-spec : {M : Type 1} → statement M
 table-stop-spec =

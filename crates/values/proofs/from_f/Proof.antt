@@ -1,18 +1,27 @@
-use Prim.Native.Nat.{_-_}
-use mathlib.Core.Path.{_≡_, sym, _∙_}
+use Prim.Native.Nat.{ℕ, suc, _+_, _*_, _-_, _≤_, _<_, _/_, _%_}
+use mathlib.Core.Path.{_≡_, refl, ap, sym, _∙_}
+use mathlib.Core.List.{List, [], _∷_, _++_}
 use native.Mathlib.Omega.{arith}
-use lib.ListN.{length, drop, length-drop}
+use native.Mathlib.Numerals.{add-one}
+use lib.ListN.{length, take, drop, set, getD, length-set, length-take, length-drop, length-append}
 use denote.Ref.{now}
 use borrow.Author.Needs.{needs}
-use borrow.Author.Tests.{le-leb, lt-leb}
-use lib.Seq.{drop-drop}
-use mathlib.Core.Bool.{true, false}
-use Rattle.steps.specs.Steps.{stateOf}
-use Rattle.model.specs.Rules.{lengthOk}
-use Rattle.values.proofs.Sizes.{row-steps, sized-of}
-use Rattle.records.proofs.Chains.{f-refuses, f-spans, f-whole, f-cut}
 use Rattle.values.proofs.from_f.Statement.{statement}
 use Rattle.values.proofs.from_f.Tie as tie
+use Rattle.values.proofs.from_f.Reads as reads
+use Rattle.values.proofs.from_f.Lts as lts
+use Rattle.content.proofs.whole_at.Reads as whole-at-reads
+use Rattle.rows.proofs.row_at.Reads as row-at-reads
+use Rattle.steps.proofs.failed_by.Reads as failed-by-reads
+use Rattle.values.proofs.fits_row.Reads as fits-row-reads
+use Rattle.values.proofs.spanned_at.Reads as spanned-at-reads
+use mathlib.Core.Bool.{true, false}
+use lib.Seq.{drop-drop}
+use borrow.Author.Tests.{le-leb, lt-leb}
+use Rattle.model.specs.Rules.{lengthOk}
+use Rattle.steps.specs.Steps.{on, Judges}
+use Rattle.steps.proofs.Chains.{f-refuses, f-spans, f-whole, f-cut}
+use Rattle.values.proofs.Sizes.{row-steps, sized-of, fits-most}
 
 row-at-requires : tie.Need-row-at-requires
 row-at-requires c κs = search needs
@@ -22,65 +31,68 @@ add-start c = search needs
 
 fits-row-requires : tie.Need-fits-row-requires
 fits-row-requires c κs =
-    let s = c .before .before .before .before in
-    rw (c .before .row-at .ensures) (row-steps (s .args .row) (s .pre .2 .dued .least) (s .pre .2 .dued .most))
+    rw (c .before .row-at .ensures) (row-steps (c .before .before .before .args .row) (c .before .before .before .pre .0) (c .before .before .before .pre .1))
 
 spanned-at-requires : tie.Need-spanned-at-requires
 spanned-at-requires c κs =
-    let s = c .before .before .before .before .before .before .before .before in
-    let r = c .before .before .before .before .before .row-at .ensures in
-    let d = s .pre .2 .dued in
-    let k : lengthOk (s .args .row) (s .args .room) (s .args .h .len) ≡ true = rw (← r, ← c .before .before .before .fits-row .ensures) (c .before .before .if1 .taken) in
-    (s .pre .0, s .pre .1, record { least = d .least; most = d .most; personal = d .personal; rowDue = d .rowDue; roomed = s .pre .2 .roomed; fitting = k }, rw (← r) (c .before .if2 .taken), s .pre .3)
-
-same-length : tie.Need-same-length
-same-length c = search needs
+    let s = c .before .before .before .before .before .before in
+    let r = c .before .before .before .before .row-at .ensures in
+    let k : lengthOk (s .args .row) (s .args .room) (s .args .h .len) ≡ true = rw (← r, ← c .before .before .fits-row .ensures) (c .before .if1 .taken) in
+    (s .pre .0, s .pre .1, rw (← r) (c .if2 .taken), omega (arith, fits-most (s .args .row) (s .args .room) (s .args .h .len) k), s .pre .5)
 
 returns : tie.Need-returns
 returns c =
-    let s = c .before .before .before .before .before .before .before .before .before .before .before in
-    let r = c .before .before .before .before .before .before .before .before .row-at .ensures in
-    let k : lengthOk (s .args .row) (s .args .room) (s .args .h .len) ≡ true = rw (← r, ← c .before .before .before .before .before .before .fits-row .ensures) (c .before .before .before .before .before .if1 .taken) in
-    c .before .before .spanned-at .ensures ∙ sym (f-spans (s .args .capacity) (s .args .row) (s .args .room) (s .args .h) (drop (s .args .at) (now (s .args .d))) (stateOf (s .args .l) (now (s .args .area))) k (rw (← r) (c .before .before .before .before .if2 .taken)) ∙ rw (drop-drop (s .args .h .size) (s .args .at) (now (s .args .d))))
+    let s = c .before .before .before .before .before .before .before in
+    let r = c .before .before .before .before .before .row-at .ensures in
+    let k : lengthOk (s .args .row) (s .args .room) (s .args .h .len) ≡ true = rw (← r, ← c .before .before .before .fits-row .ensures) (c .before .before .if1 .taken) in
+    λ l a q. rw (f-spans (s .args .capacity) (s .args .row) (s .args .room) (s .args .h) (drop (s .args .at) (now (s .args .d))) (on (s .args .p) l a) k (rw (← r) (c .before .if2 .taken)), drop-drop (s .args .h .size) (s .args .at) (now (s .args .d)))
+    (c .spanned-at .ensures (s .args .capacity) (s .args .at) (s .args .room) l a (omega arith) k q)
 
 sub-if3 : tie.Need-sub-if3
 sub-if3 c = search needs
 
 whole-at-requires : tie.Need-whole-at-requires
 whole-at-requires c κs =
-    let s = c .before .before .before .before .before .before .before .before .before in
+    let s = c .before .before .before .before .before .before .before .before in
     let r = c .before .before .before .before .before .before .row-at .ensures in
-    let d = s .pre .2 .dued in
     let k : lengthOk (s .args .row) (s .args .room) (s .args .h .len) ≡ true = rw (← r, ← c .before .before .before .before .fits-row .ensures) (c .before .before .before .if1 .taken) in
-    (sized-of _ _ _ _ (s .args .row) (d .least) (d .most) (rw (← r) (c .before .before .if2 .left)) (s .pre .2 .roomed) k, d .least, omega arith)
+    (sized-of (s .args .room) (s .args .h .len) (s .args .row) (s .pre .0) (s .pre .1) (rw (← r) (c .before .before .if2 .left)) (s .pre .3) k, s .pre .0, omega arith)
 
 returns-2 : tie.Need-returns-2
 returns-2 c =
-    let s = c .before .before .before .before .before .before .before .before .before .before in
+    let s = c .before .before .before .before .before .before .before .before .before in
     let r = c .before .before .before .before .before .before .before .row-at .ensures in
     let k : lengthOk (s .args .row) (s .args .room) (s .args .h .len) ≡ true = rw (← r, ← c .before .before .before .before .before .fits-row .ensures) (c .before .before .before .before .if1 .taken) in
-    c .whole-at .ensures _
-    ∙ sym (f-whole (s .args .capacity) (s .args .row) (s .args .room) (s .args .h) (drop (s .args .at) (now (s .args .d))) (stateOf (s .args .l) (now (s .args .area))) k (rw (← r) (c .before .before .before .if2 .left)) (rw length-drop (le-leb (s .args .h .len) (length (now (s .args .d)) - s .args .at - s .args .h .size) (omega arith))) ∙ rw (drop-drop (s .args .h .size) (s .args .at) (now (s .args .d))))
+    λ l a q. rw (
+      f-whole (s .args .capacity) (s .args .row) (s .args .room) (s .args .h) (drop (s .args .at) (now (s .args .d))) (on (s .args .p) l a) k (rw (← r) (c .before .before .before .if2 .left))
+          (rw length-drop (le-leb (s .args .h .len) (length (now (s .args .d)) - s .args .at - s .args .h .size) (omega arith))),
+      drop-drop (s .args .h .size) (s .args .at) (now (s .args .d)),
+    )
+    (c .whole-at .ensures (s .args .at) l a (omega arith))
 
 failed-by-requires : tie.Need-failed-by-requires
 failed-by-requires c κs = search needs
 
 returns-3 : tie.Need-returns-3
 returns-3 c =
-    let s = c .before .before .before .before .before .before .before .before .before .before in
+    let s = c .before .before .before .before .before .before .before .before .before in
     let r = c .before .before .before .before .before .before .before .row-at .ensures in
     let k : lengthOk (s .args .row) (s .args .room) (s .args .h .len) ≡ true = rw (← r, ← c .before .before .before .before .before .fits-row .ensures) (c .before .before .before .before .if1 .taken) in
-    rw (c .failed-by .ensures) (sym (f-cut (s .args .capacity) (s .args .row) (s .args .room) (s .args .h) (drop (s .args .at) (now (s .args .d))) (stateOf (s .args .l) (now (s .args .area))) k (rw (← r) (c .before .before .before .if2 .left)) (rw length-drop (lt-leb (s .args .h .len) (length (now (s .args .d)) - s .args .at - s .args .h .size) (omega arith)))))
+    λ l a q. rw (c .failed-by .ensures) (record {
+      comes = sym (f-cut (s .args .capacity) (s .args .row) (s .args .room) (s .args .h) (drop (s .args .at) (now (s .args .d))) (on (s .args .p) l a) k (rw (← r) (c .before .before .before .if2 .left))
+          (rw length-drop (lt-leb (s .args .h .len) (length (now (s .args .d)) - s .args .at - s .args .h .size) (omega arith))));
+      ahead = tt;
+    })
 
 failed-by-requires-2 : tie.Need-failed-by-requires-2
 failed-by-requires-2 c κs = search needs
 
 returns-4 : tie.Need-returns-4
 returns-4 c =
-    let s = c .before .before .before .before .before .before .before in
+    let s = c .before .before .before .before .before .before in
     let r = c .before .before .before .before .row-at .ensures in
     let k : lengthOk (s .args .row) (s .args .room) (s .args .h .len) ≡ false = rw (← r, ← c .before .before .fits-row .ensures) (c .before .if1 .left) in
-    rw (c .failed-by2 .ensures) (sym (f-refuses (s .args .capacity) (s .args .row) (s .args .room) (s .args .h) (drop (s .args .at) (now (s .args .d))) (stateOf (s .args .l) (now (s .args .area))) k))
+    λ l a q. rw (c .failed-by2 .ensures) (record { comes = sym (f-refuses (s .args .capacity) (s .args .row) (s .args .room) (s .args .h) (drop (s .args .at) (now (s .args .d))) (on (s .args .p) l a) k); ahead = tt })
 
 pub from-f-spec : {M : Type 1} → statement M
 from-f-spec =
@@ -90,7 +102,6 @@ from-f-spec =
     add-start
     fits-row-requires
     spanned-at-requires
-    same-length
     returns
     sub-if3
     whole-at-requires

@@ -1,58 +1,38 @@
-use Prim.Native.Nat.{ℕ}
-use mathlib.Core.Path.{sym, _∙_}
+use Prim.Native.Nat.{ℕ, suc, _+_, _*_, _-_, _≤_, _<_, _/_, _%_}
+use mathlib.Core.Path.{_≡_, refl, ap, sym, _∙_}
+use mathlib.Core.List.{List, [], _∷_, _++_}
+use native.Mathlib.Omega.{arith}
+use native.Mathlib.Numerals.{add-one}
+use lib.ListN.{length, take, drop, set, getD, length-set, length-take, length-drop, length-append}
 use denote.Ref.{now}
 use borrow.Author.Needs.{needs}
-use Rattle.values.proofs.Openings.{spans-record}
-use borrow.Author.Tests.{eq-eqb, ne-eqb}
-use mathlib.Core.Path.{subst}
-use Rattle.soundness.proofs.Parts.{sound-parts}
-use Rattle.steps.specs.Steps.{stateOf, activeLife}
-use Rattle.soundness.specs.Keeps.{Ruled}
-use Rattle.model.specs.Rules.{spanned, fed}
-use Rattle.values.proofs.Openings.{table-opens, record-opens, record-over}
 use Rattle.values.proofs.spanned_at.Statement.{statement}
 use Rattle.values.proofs.spanned_at.Tie as tie
+use Rattle.values.proofs.spanned_at.Reads as reads
+use Rattle.values.proofs.spanned_at.Lts as lts
+use Rattle.laying.proofs.record_step.Reads as record-step-reads
+use Rattle.steps.proofs.with_open.Reads as with-open-reads
+use Rattle.values.proofs.Openings.{spans-record, table-opens, record-opens}
 
 with-open-requires : tie.Need-with-open-requires
 with-open-requires c κs = search needs
 
-table-fed-requires : tie.Need-table-fed-requires
-table-fed-requires c κs =
-    let if1 = c .before .before .if1 in
-    let s = c .before .before .before .before .before in
-    let r = subst (λ (x : ℕ). Ruled (stateOf (s .args .l) (now (s .args .area))) (s .args .h) x (s .args .room)) (if1 .taken) (s .pre .2) in
-    rw (c .with-open .ensures) (s .pre .4, table-opens (s .args .l) (now (s .args .area)) (s .args .h) (s .args .room) (s .pre .0) (s .pre .1) r)
-
 returns : tie.Need-returns
-unfolding spanned fed
 returns c =
-    c .table-fed .ensures _ ∙ rw (c .before .with-open .ensures, eq-eqb _ _ (c .before .before .before .if1 .taken))
+    let s = c .before .before .before in
+    λ capacity place room l a i f r. rw (c .with-open .ensures)
+    (table-opens capacity place (s .args .at) (s .args .row) (s .args .base) room (s .args .h) (now (s .args .d)) (s .args .p) l a i (s .pre .4) f r (c .before .if1 .taken))
 
-record-fed-requires : tie.Need-record-fed-requires
-record-fed-requires c κs =
-    let s = c .before .before .before .before in
-    let q = spans-record (s .args .row) (s .pre .2 .least) (s .pre .2 .most) (s .pre .3) (c .before .if1 .left) in
-    let r = subst (λ (x : ℕ). Ruled (stateOf (s .args .l) (now (s .args .area))) (s .args .h) x (s .args .room)) q (s .pre .2) in
-    (s .pre .4, s .pre .0 .area, sound-parts activeLife (s .args .l) (s .pre .0 .sound) .count, record-opens (s .args .l) (now (s .args .area)) (s .args .h) (s .args .room) (s .pre .0) r)
-
-same-length : tie.Need-same-length
-same-length c = search needs
+record-step-requires : tie.Need-record-step-requires
+record-step-requires c κs = search needs
 
 returns-2 : tie.Need-returns-2
-unfolding spanned fed
 returns-2 c =
-    let record-fed = c .before .before .record-fed in
-    let if1 = c .before .before .before .before .if1 in
-    let a = c .before .before .before .before .before .before .before .args in
-    record-fed .ensures ∙ rw (ne-eqb _ _ (if1 .left)) (sym (record-over (a .h .tag) 0 (a .h .len) _ (a .l) _ _))
+    let s = c .before .before .before in
+    let e = c .before .if1 .left in
+    λ capacity place room l a i f r. rw (c .record-step .ensures)
+    (record-opens capacity place (s .args .at) (s .args .row) (s .args .base) room (s .args .h) (now (s .args .d)) (s .args .p) l a i (s .pre .4) f r e
+    (spans-record (s .args .row) (s .pre .0) (s .pre .1) (s .pre .2) e) (s .pre .3))
 
 pub spanned-at-spec : {M : Type 1} → statement M
-spanned-at-spec =
-    tie.close
-    (tie.spec
-    with-open-requires
-    table-fed-requires
-    returns
-    record-fed-requires
-    same-length
-    returns-2)
+spanned-at-spec = tie.close (tie.spec with-open-requires returns record-step-requires returns-2)

@@ -1,4 +1,0 @@
-pub mod Named
-pub mod Outside
-pub mod Records
-pub mod Replies

@@ -1,0 +1,4 @@
+pub mod Named
+pub mod ByKind
+pub mod Records
+pub mod Replies

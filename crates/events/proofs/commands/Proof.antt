@@ -1,0 +1,40 @@
+use Prim.Native.Nat.{ℕ, suc, _+_, _*_, _-_, _≤_, _<_, _/_, _%_}
+use mathlib.Core.Path.{_≡_, refl, ap, sym, _∙_}
+use mathlib.Core.List.{List, [], _∷_, _++_}
+use native.Mathlib.Omega.{arith}
+use native.Mathlib.Numerals.{add-one}
+use lib.ListN.{length, take, drop, set, getD, length-set, length-take, length-drop, length-append}
+use denote.Ref.{now}
+use borrow.Author.Needs.{needs}
+use Rattle.events.proofs.commands.Statement.{statement}
+use Rattle.events.proofs.commands.Tie as tie
+use Rattle.events.proofs.commands.Reads as reads
+use Rattle.events.proofs.commands.Lts as lts
+use borrow.Author.Tests.{eq-eqb, ne-eqb}
+use Rattle.events.specs.Lives.{isCommand}
+
+returns : tie.Need-returns
+unfolding isCommand
+returns c = rw (ne-eqb _ _ (c .if1 .taken))
+
+returns-2 : tie.Need-returns-2
+unfolding isCommand
+returns-2 c = rw (eq-eqb _ _ (c .before .if1 .left), eq-eqb _ _ (c .if2 .taken))
+
+returns-3 : tie.Need-returns-3
+unfolding isCommand
+returns-3 c =
+    rw (eq-eqb _ _ (c .before .before .before .before .if1 .left), ne-eqb _ _ (c .before .before .before .if2 .left), c .before .before .if3 .taken, eq-eqb _ _ (c .before .if4 .taken))
+
+returns-4 : tie.Need-returns-4
+unfolding isCommand
+returns-4 c =
+    rw (eq-eqb _ _ (c .before .before .before .if1 .left), ne-eqb _ _ (c .before .before .if2 .left), c .before .if3 .taken, ne-eqb _ _ (c .if4 .left))
+
+returns-5 : tie.Need-returns-5
+unfolding isCommand
+returns-5 c =
+    rw (eq-eqb _ _ (c .before .before .if1 .left), ne-eqb _ _ (c .before .if2 .left), c .if3 .left)
+
+pub commands-spec : {M : Type 1} → statement M
+commands-spec = tie.close (tie.spec returns returns-2 returns-3 returns-4 returns-5)

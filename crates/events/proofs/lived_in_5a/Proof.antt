@@ -1,0 +1,81 @@
+use Prim.Native.Nat.{ℕ, suc, _+_, _*_, _-_, _≤_, _<_, _/_, _%_}
+use mathlib.Core.Path.{_≡_, refl, ap, sym, _∙_}
+use mathlib.Core.List.{List, [], _∷_, _++_}
+use native.Mathlib.Omega.{arith}
+use native.Mathlib.Numerals.{add-one}
+use lib.ListN.{length, take, drop, set, getD, length-set, length-take, length-drop, length-append}
+use denote.Ref.{now}
+use borrow.Author.Needs.{needs}
+use Rattle.events.proofs.lived_in_5a.Statement.{statement}
+use Rattle.events.proofs.lived_in_5a.Tie as tie
+use Rattle.events.proofs.lived_in_5a.Reads as reads
+use Rattle.events.proofs.lived_in_5a.Lts as lts
+use Rattle.events.proofs.locked.Reads as locked-reads
+use Rattle.events.proofs.told_stuck.Reads as told-stuck-reads
+use mathlib.Core.Bool.{true, false}
+use Rattle.model.specs.Loads.{withNoneOpen}
+use Rattle.fci.specs.Answers.{said}
+use Rattle.events.proofs.ByKind.{event-loads, event-locks, event-stuck, data-locks, data-unselected}
+
+locked-requires : tie.Need-locked-requires
+locked-requires c κs = search needs
+
+returns : tie.Need-returns
+returns c =
+    let s = c .before .before .before .before .before .before .before .before .args in
+    let q = c .before .before .before .before .before .before .before .before .pre in
+    let g = c .before .before .before .if1 .taken in
+    λ p a. rw (event-loads (s .kind) p (now (s .d)) (s .c) a (q .2) g (c .before .before .if2 .taken), data-locks (s .kind) p (now (s .d)) (s .c) a (q .2) g (c .before .before .if2 .taken) (c .before .if3 .taken) (rw (q .2) (q .3)), c .locked .ensures)
+    (said _ _ a _)
+
+returns-2 : tie.Need-returns-2
+returns-2 c =
+    let s = c .before .before .before .before .before .before .before .args in
+    let q = c .before .before .before .before .before .before .before .pre in
+    λ p a. rw (event-loads (s .kind) p (now (s .d)) (s .c) a (q .2) (c .before .before .if1 .taken) (c .before .if2 .taken), data-unselected (s .kind) p (now (s .d)) (s .c) a (c .if3 .left)) (said _ _ a _)
+
+told-stuck-requires : tie.Need-told-stuck-requires
+told-stuck-requires c κs =
+    (c .before .before .before .before .before .before .before .pre .0, c .before .before .before .before .before .before .before .pre .1)
+
+locked-requires-2 : tie.Need-locked-requires-2
+locked-requires-2 c κs = search needs
+
+same-length : tie.Need-same-length
+same-length c = search needs
+
+returns-3 : tie.Need-returns-3
+returns-3 c =
+    let s = c .before .before .before .before .before .before .before .before .before .before .before .args in
+    let q = c .before .before .before .before .before .before .before .before .before .before .before .pre in
+    λ p a. rw (event-locks (s .kind) p (now (s .d)) (s .c) a (q .2) (c .before .before .before .before .before .before .if1 .taken) (c .before .before .before .before .before .if2 .left), c .locked2 .ensures)
+    (c .before .before .before .told-stuck .ensures p 0x87 false (withNoneOpen (s .c .loading)) a)
+
+told-stuck-requires-2 : tie.Need-told-stuck-requires-2
+told-stuck-requires-2 c κs =
+    (c .before .before .before .before .before .before .pre .0, c .before .before .before .before .before .before .pre .1)
+
+same-length-2 : tie.Need-same-length-2
+same-length-2 c = search needs
+
+returns-4 : tie.Need-returns-4
+returns-4 c =
+    let s = c .before .before .before .before .before .before .before .before .before .args in
+    let q = c .before .before .before .before .before .before .before .before .before .pre in
+    λ p a. rw (event-stuck (s .kind) p (now (s .d)) (s .c) a (q .2) (c .before .before .before .before .if1 .left))
+    (c .before .before .told-stuck2 .ensures p (s .c .life .gp) (s .c .life .selected) (s .c .loading) a)
+
+pub lived-in-5a-spec : {M : Type 1} → statement M
+lived-in-5a-spec =
+    tie.close
+    (tie.spec
+    locked-requires
+    returns
+    returns-2
+    told-stuck-requires
+    locked-requires-2
+    same-length
+    returns-3
+    told-stuck-requires-2
+    same-length-2
+    returns-4)

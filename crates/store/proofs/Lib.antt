@@ -1,3 +1,0 @@
-pub mod Sure
-pub mod Replies
-pub mod Tellings

@@ -1,0 +1,85 @@
+use Prim.Native.Nat.{ℕ, suc, _+_, _*_, _-_, _≤_, _<_, _/_, _%_}
+use mathlib.Core.Path.{_≡_, refl, ap, sym, _∙_}
+use mathlib.Core.List.{List, [], _∷_, _++_}
+use native.Mathlib.Omega.{arith}
+use native.Mathlib.Numerals.{add-one}
+use lib.ListN.{length, take, drop, set, getD, length-set, length-take, length-drop, length-append}
+use denote.Ref.{now}
+use borrow.Author.Needs.{needs}
+use Rattle.turns.proofs.commanded.Statement.{statement}
+use Rattle.turns.proofs.commanded.Tie as tie
+use Rattle.turns.proofs.commanded.Reads as reads
+use Rattle.turns.proofs.commanded.Lts as lts
+use Rattle.load.proofs.settled.Reads as settled-reads
+use Rattle.load.proofs.walked.Reads as walked-reads
+use Rattle.turns.proofs.lay_end.Reads as lay-end-reads
+use Rattle.turns.proofs.settled_card.Reads as settled-card-reads
+use Rattle.lists.specs.Over.{overwrite}
+use Rattle.model.specs.Rules.{Result, thence}
+use Rattle.model.specs.Command.{theEnd}
+use Rattle.model.specs.Events.{storeData, commanded}
+use Rattle.fci.specs.Answers.{Answers}
+use Rattle.steps.specs.Steps.{stateOf}
+use Rattle.walk.proofs.Paces.{command-all}
+use Rattle.load.specs.Ends.{endOf}
+use Rattle.events.proofs.Named.{good-steady}
+use Rattle.events.proofs.ByKind.{data-command}
+use Rattle.turns.proofs.Answered.{answered}
+
+walked-requires : tie.Need-walked-requires
+walked-requires c κs =
+    let q = c .before .before .before .before .pre in
+    (omega arith, good-steady _ _ (q .0) (q .2))
+
+settled-requires : tie.Need-settled-requires
+settled-requires c κs = search needs
+
+settled-card-requires : tie.Need-settled-card-requires
+settled-card-requires c κs = search needs
+
+lay-end-requires : tie.Need-lay-end-requires
+lay-end-requires c κs =
+    c .before .before .before .before .before .before .before .before .before .before .before .pre .1
+
+same-length : tie.Need-same-length
+same-length c = search needs
+
+same-length-2 : tie.Need-same-length-2
+same-length-2 c = search needs
+
+returns : tie.Need-returns
+returns c =
+    let s = c .before .before .before .before .before .before .before .before .before .before .before .before .before .before in
+    let w = c .before .before .before .before .before .before .before .before .before .walked in
+    let x = c .before .before .before .before .before .settled in
+    let l = w .result .load in
+    let a = w .last .1 .0 in
+    let d = now (s .args .d) in
+    let k = c .before .before .before .before .settled-card .ensures in
+    let t : storeData (s .args .p1) d (s .args .c) (now (s .args .area)) ≡ commanded (s .args .c) (thence (endOf (w .result .end) (stateOf l a)) (λ k. theEnd (s .args .p1))) =
+    data-command 2 (s .args .p1) d (s .args .c) (now (s .args .area)) (s .pre .2) (λ q. absurd (omega (arith, s .pre .3)))
+    ∙ ap (commanded (s .args .c)) (command-all (s .args .c .chip .capacity) (s .args .p1) 0 d (stateOf (s .args .c .loading) (now (s .args .area))) (s .pre .3)
+    ∙ ap (λ (y : Result ℕ). thence y (λ k. theEnd (s .args .p1))) (sym (w .ensures .ends))) in
+    let z = x .ensures (s .args .c) l a in
+    let v = answered (w .result .end) (s .args .c) _ l a (s .args .p1) (k ∙ z .leaves) in (
+      refl,
+      rw t (record {
+        says = z .says;
+        counts = c .before .before .lay-end .ensures .0 ∙ ap length v;
+        leaves = k ∙ z .leaves;
+        keeps = z .keeps;
+        writes = c .before .before .lay-end .ensures .1 ∙ ap (overwrite (now (s .args .answer)) 0) v;
+      }),
+    )
+
+pub commanded-spec : {M : Type 1} → statement M
+commanded-spec =
+    tie.close
+    (tie.spec
+    walked-requires
+    settled-requires
+    settled-card-requires
+    lay-end-requires
+    same-length
+    same-length-2
+    returns)
