@@ -9,15 +9,13 @@ use lib.ListN.{length, take, drop, length-replicate, length-append, length-drop}
 use Rattle.lists.specs.Bytes.{zeros}
 use Rattle.lists.specs.Over.{overwrite, over-then, over-zero}
 use Rattle.model.specs.declared.Loading.{Loading}
-use Rattle.model.specs.Loads.{withTaken}
-use Rattle.model.specs.Stored.{freshLoading, areaSize}
+use Rattle.model.specs.Stored.{areaSize}
 use Rattle.model.specs.Rows.{taken, withRow, mandatoryMissing}
 use Rattle.model.specs.Table.{tablePasses}
 use Rattle.model.specs.Rules.{Result}
 use Rattle.model.specs.Sound.{secretsOk, soundWith}
 use Rattle.model.specs.Command.{walk, isShut, ready}
 use Rattle.model.specs.Order.{challengedState, finished, complete, orderLimit}
-use Rattle.soundness.specs.Keeps.{Kept}
 use Rattle.soundness.proofs.Inside.{Steady, steady-of}
 use Rattle.walk.specs.Paces.{onward}
 use Rattle.walk.proofs.Paces.{shut-walk}

@@ -16,7 +16,6 @@ use Rattle.model.specs.Loads.{withTaken, withSerial, withStartup, withCounter, 
 use Rattle.model.specs.Rules.{Result, went, failed, does, startupOk, startup, counterOf, kept, whole}
 use Rattle.model.specs.declared.Running.{Running}
 use Rattle.model.specs.Loads.{withRunning, runningTaken}
-use Rattle.steps.specs.declared.Step.{Step}
 use Rattle.steps.specs.declared.Course.the-variants.{Keeps, Failed}
 use Rattle.steps.specs.Stages.{Sized}
 use Rattle.steps.specs.Steps.{stateOf, on, startupOf, keptOf, Judges}

@@ -22,12 +22,11 @@ use Rattle.model.specs.Order.{orderLimit, challengedState, finished, complete, 
 use Rattle.cutting.specs.Bytewise.{Part, between, head, value, run, atEnd, headAsks, asks, Misses}
 use Rattle.cutting.specs.Packs.{longestUnit, Sized, none, more}
 use Rattle.cutting.specs.Job.{stateOf, uncut}
-use Rattle.cutting.proofs.Splits.{run-after}
+use Rattle.cutting.proofs.Splits.{run-after, failed-not, asked-not}
 use Rattle.cutting.proofs.Heads.{run-whole}
 use Rattle.cutting.proofs.Walks.{walk-behind, command-run}
 use Rattle.cutting.proofs.Values.{never}
 use Rattle.cutting.proofs.Begins.{begun-query}
-use Rattle.cutting.proofs.Splits.{failed-not, asked-not}
 use Rattle.cutting.proofs.Units.{Chain, done, link, units-chain}
 use Rattle.cutting.proofs.Packing.{length-records, few-commands}
 

@@ -8,9 +8,8 @@ use lib.Dec.{eqb, leb}
 use borrow.Author.Tests.{eqb-true, leb-true}
 use Rattle.model.specs.declared.Card.{Card}
 use Rattle.model.specs.Stored.{areaSize}
-use Rattle.model.specs.Loads.{State}
 use Rattle.model.specs.Sound.{selectedOk}
-use Rattle.soundness.specs.Keeps.{Good, Kept}
+use Rattle.soundness.specs.Keeps.{Good}
 use Rattle.soundness.proofs.Inside.{Steady, steady-of}
 use Rattle.soundness.proofs.Parts.{sound-parts}
 use Rattle.soundness.proofs.Tests.{and-r}

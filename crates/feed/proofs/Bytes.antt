@@ -1,5 +1,5 @@
 -- Bytes of '3100' some at a time.
-use Prim.Native.Nat.{ℕ, zero, suc, _+_, _-_, _≤_, _<_}
+use Prim.Native.Nat.{ℕ, zero, suc, _+_, _-_, _≤_, _<_, min}
 use mathlib.Core.Path.{_≡_, refl, _∙_, subst}
 use mathlib.Core.Bool.{true, false}
 use mathlib.Core.List.{List, [], _∷_, _++_}
@@ -25,14 +25,12 @@ use Rattle.model.specs.declared.Verdict.{Verdict}
 use Rattle.model.specs.declared.Verdict.the-variants.{Passes, Refuses}
 use Rattle.model.specs.Rows.{descriptorSize}
 use Rattle.model.specs.Table.{admitOf, rulesOk}
-use Rattle.model.specs.Loads.{State, withOpen}
+use Rattle.model.specs.Loads.{State, withOpen, withProgress, runningOpen, runningTaken}
 use Rattle.model.specs.Rules.{Result, went, asked, failed, thence, inTable, tableByte, tableBytes, tableDone}
 use Rattle.lists.specs.Bytes.{part, byteAt, zeros}
 use Rattle.lists.specs.Least.{rest-least, part-least}
 use Rattle.model.specs.Rules.{feeding, fed}
-use Prim.Native.Nat.{min}
 use Rattle.model.specs.declared.Running.{Running}
-use Rattle.model.specs.Loads.{withProgress, runningOpen, runningTaken}
 use Rattle.steps.specs.Steps.{stateOf, missingIn}
 use Rattle.feed.specs.Bytes.{tableRun, TakenTo}
 

@@ -7,7 +7,7 @@ use lib.Dec.{eqb}
 use Rattle.model.specs.declared.Descriptor.{Descriptor}
 use Rattle.model.specs.declared.Verdict.{Verdict}
 use Rattle.model.specs.declared.Verdict.the-variants.{Refuses}
-use Rattle.model.specs.Table.{clash, clashes, rulesOk, admitOf}
+use Rattle.model.specs.Table.{clashes, rulesOk, admitOf}
 use Rattle.flaws.specs.declared.Flaw.{Flaw}
 use Rattle.flaws.specs.declared.Flaw.the-variants.{LidUsed, SfiUsed}
 use Rattle.flaws.specs.Flaws.{clashFlaw, flawOf, verdictOf}

@@ -1,17 +1,14 @@
 -- A header by its place in the whole slice.
-use Prim.Native.Nat.{ℕ, _+_, _-_, _*_, _≤_, _<_}
-use mathlib.Core.Path.{_≡_, refl, sym, ap, _∙_}
-use mathlib.Core.Bool.{Bool, true, false, cond}
+use Prim.Native.Nat.{ℕ, _+_, _-_, _≤_, _<_}
+use mathlib.Core.Path.{_≡_, _∙_}
 use mathlib.Core.List.{List}
 use native.Mathlib.Nat.{add-zero, add-assoc}
 use native.Mathlib.Omega.{arith}
-use lib.Dec.{eqb, ltb}
-use lib.ListN.{length, drop, getD, length-drop}
+use lib.ListN.{length, drop, length-drop}
 use lib.Seq.{getD-drop}
 use borrow.Author.Tests.{lt-ltb, le-ltb, eq-eqb, ne-eqb}
 use Rattle.lists.specs.Bytes.{byteAt, wordAt}
-use Rattle.model.specs.declared.Header.{Header}
-use Rattle.model.specs.declared.Header.the-variants.{Torn, Whole}
+use Rattle.model.specs.declared.Header.the-variants.{Torn}
 use Rattle.model.specs.Header.{headed, longForm, headerOf}
 
 word-drop : (s : List ℕ) (at i : ℕ) → wordAt (drop at s) i ≡ wordAt s (at + i)

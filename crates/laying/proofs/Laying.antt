@@ -1,6 +1,6 @@
 -- A record's bytes laid by the owner are those that an open value takes.
-use Prim.Native.Nat.{ℕ, zero, suc, _+_, _-_, _≤_, min}
-use mathlib.Core.Path.{_≡_, refl, ap, sym, _∙_}
+use Prim.Native.Nat.{ℕ, zero, suc, _+_, _-_, min}
+use mathlib.Core.Path.{_≡_, refl, ap}
 use mathlib.Core.List.{List}
 use native.Mathlib.Omega.{arith}
 use lib.ListN.{length, take, drop}
@@ -10,10 +10,9 @@ use Rattle.model.specs.declared.Loading.{Loading}
 use Rattle.model.specs.declared.Open.the-variants.{Shut, Record}
 use Rattle.model.specs.declared.Running.{Running}
 use Rattle.model.specs.declared.Spot.the-variants.{At}
-use Rattle.model.specs.Loads.{State, fileList, withRunning, changed, runningTaken, runningLast, runningOpen}
-use Rattle.model.specs.Rules.{Result, went, tagSpot, laid, recordDone, recordBytes, feeding}
-use Rattle.steps.specs.declared.Step.{Step}
-use Rattle.steps.specs.Steps.{stateOf, on, carried}
+use Rattle.model.specs.Loads.{fileList, runningTaken, runningLast, runningOpen}
+use Rattle.model.specs.Rules.{went, tagSpot, recordDone, recordBytes, feeding}
+use Rattle.steps.specs.Steps.{on, carried}
 use Rattle.laying.specs.Records.{recordRun, recordStep}
 
 run-done : (tag w m : ℕ) (p : Running) (l : Loading) (a : List ℕ) → on (recordRun tag w m p) l a ≡ recordDone tag w m (on p l a)

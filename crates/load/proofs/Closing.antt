@@ -1,6 +1,6 @@
 -- The end of a command, by its word.
 use Prim.Native.Nat.{ℕ, _≤_, _<_}
-use mathlib.Core.Path.{_≡_, refl, sym, _∙_}
+use mathlib.Core.Path.{_≡_, refl}
 use mathlib.Core.Bool.{Bool, true, false, cond, not, _&&_}
 use native.Mathlib.Omega.{arith}
 use borrow.Author.Tests.{le-leb, lt-leb}
@@ -15,7 +15,6 @@ use Rattle.model.specs.declared.Running.{Running}
 use Rattle.model.specs.Events.{withLoading, locked, says, errs, commanded}
 use Rattle.model.specs.Rules.{Result, went, asked, failed}
 use Rattle.steps.specs.Steps.{on}
-use Rattle.load.specs.declared.Said.{Said}
 use Rattle.model.specs.Command.{isShut, ready, theEnd}
 use Rattle.load.specs.Ends.{endWord, erredAs, Settles}
 

@@ -1,7 +1,6 @@
 -- ONE STEP, APPLIED, IS ONE TURN OF THE DEFINITION'S WALK: what the owner of the loading part and of the area cites, whichever it is.
-use Prim.Native.Nat.{ℕ, _+_, _-_, _/_, _%_, _≤_, _<_, min}
+use Prim.Native.Nat.{ℕ, _-_, _≤_, _<_}
 use mathlib.Core.Path.{_≡_, refl, ap, sym, _∙_, subst}
-use mathlib.Core.Bool.{true}
 use mathlib.Core.List.{List, []}
 use lib.ListN.{length, drop, drop-of-length-le}
 use native.Mathlib.Nat.{le-trans}
@@ -11,23 +10,20 @@ use Rattle.lists.specs.Over.{overwrite}
 use Rattle.model.specs.declared.Loading.{Loading}
 use Rattle.model.specs.declared.Open.{Open}
 use Rattle.model.specs.declared.Open.the-variants.{Shut, Table, Record}
-use Rattle.model.specs.declared.Running.{Running}
 use Rattle.model.specs.declared.Spot.{Spot}
 use Rattle.model.specs.declared.Spot.the-variants.{Nowhere, At}
 use Rattle.model.specs.declared.Verdict.{Verdict}
 use Rattle.model.specs.declared.Verdict.the-variants.{Passes, Refuses}
 use Rattle.model.specs.Stored.{areaSize}
 use Rattle.model.specs.Loads.{State, fileList, withRunning}
-use Rattle.model.specs.Rules.{Result, went, asked, failed, fed, tagSpot}
-use Rattle.soundness.specs.Opened.{RecordOpen}
+use Rattle.model.specs.Rules.{went, failed, fed, tagSpot}
 use Rattle.soundness.proofs.Inside.{Steady, fits-same}
 use Rattle.soundness.proofs.Opened.{record-opened}
 use Rattle.soundness.proofs.Within.{spot-within as table-within, total-passes}
 use Rattle.steps.specs.declared.Course.{Course}
 use Rattle.steps.specs.declared.Course.the-variants.{Keeps, Lays, Feeds, Asked, Failed}
 use Rattle.steps.specs.declared.Step.{Step}
-use Rattle.steps.specs.Stages.{Sized}
-use Rattle.steps.specs.Steps.{stateOf, on, missingIn, keptOf, carried, Ahead, Judges, Within}
+use Rattle.steps.specs.Steps.{stateOf, keptOf, carried, Ahead, Judges, Within}
 use Rattle.feed.specs.Bytes.{fedAs, Reaches}
 use Rattle.walk.specs.Turns.{wantedTag, Fits, stepOf}
 use Rattle.walk.specs.Paces.{Paced, rests, onward}

@@ -1,19 +1,19 @@
 -- "Numbered examples": the twelve, every part of each, and the sample of `replay`, computed from the definition.
 use Prim.Native.Nat.{ℕ, _+_}
-use mathlib.Core.Bool.{Bool, true, false, cond, not, _&&_, _||_}
+use mathlib.Core.Bool.{Bool, true, _&&_}
 use mathlib.Core.List.{List, [], _∷_, _++_}
 use lib.Dec.{T, eqb}
 use lib.ListN.{length, replicate}
-use Rattle.lists.specs.Bytes.{part, same, zeros, allZero}
+use Rattle.lists.specs.Bytes.{same, zeros}
 use Rattle.model.specs.declared.Header.{Header}
 use Rattle.model.specs.declared.Header.the-variants.{Torn, Whole}
-use Rattle.model.specs.Stored.{Event, chipOf, chipForm, freshCard, paddedZero, recordOf}
-use Rattle.model.specs.Header.{headerOf, longForm}
-use Rattle.model.specs.Table.{descriptorOf, clashes, sizeOf, counterAmong, rulesOk, total, admitOf, tablePasses, spotFrom, spotOf}
-use Rattle.model.specs.Order.{complete, single, unitsIn, packed, cutOf}
-use Rattle.model.specs.Lines.{lineOf, endOf, linesFrom, replayOf}
+use Rattle.model.specs.Stored.{Event}
+use Rattle.model.specs.Header.{headerOf}
+use Rattle.model.specs.Table.{descriptorOf, sizeOf}
+use Rattle.model.specs.Order.{complete, cutOf}
+use Rattle.model.specs.Lines.{replayOf}
 use Rattle.model.proofs.Computed.{computed}
-use Rattle.model.proofs.Scenes.{Bytes, chip, blankCard, event, name, installData, install, select, command, challenge, status, serial, startup, counter, key, table, df, ef, linear, begun, asked, loads, keys, loaded, turnsFrom, turns, wordsIn, endOr, Claim, words, ends, rows, answer, starts, descriptors, stored, secret, count, holds, allHold, shows, recordsOf}
+use Rattle.model.proofs.Scenes.{Bytes, chip, select, command, challenge, status, serial, startup, counter, key, table, df, ef, linear, begun, asked, loads, loaded, Claim, words, ends, rows, answer, starts, descriptors, stored, secret, count, shows, recordsOf}
 
 -- how an example is stated
 pub data Example : Type 0 where

@@ -1,13 +1,12 @@
 -- Bytes and events that the examples are made of, and what is asked of a session of them.
-use Prim.Native.Nat.{ℕ, zero, suc, _+_, _*_}
-use mathlib.Core.Bool.{Bool, true, false, cond, not, _&&_, _||_}
+use Prim.Native.Nat.{ℕ, _+_}
+use mathlib.Core.Bool.{Bool, true, _&&_}
 use mathlib.Core.List.{List, [], _∷_, _++_}
 use lib.Dec.{eqb}
 use lib.ListN.{length, getD, replicate}
 use Rattle.lists.specs.Bytes.{part, same, zeros}
 use Rattle.model.specs.declared.Card.{Card}
 use Rattle.model.specs.Stored.{Event, recordOf, chipOf, freshCard, areaSize, answerRoom}
-use Rattle.model.specs.Events.{Reply}
 use Rattle.model.specs.Session.{Turn, refusedBy, playOf}
 
 abbrev pub Bytes : Type 0

@@ -1,9 +1,9 @@
 -- Two loadings that differ in every byte of every secret, computed: nothing that can be seen tells them apart, and the secrets do.
 use Prim.Native.Nat.{ℕ, _+_}
-use mathlib.Core.Bool.{Bool, true, false, not, _&&_}
+use mathlib.Core.Bool.{Bool, true, false, _&&_}
 use mathlib.Core.List.{List, [], _∷_, _++_}
 use lib.Dec.{T, eqb}
-use lib.ListN.{length, getD, replicate}
+use lib.ListN.{getD, replicate}
 use Rattle.lists.specs.Bytes.{same}
 use Rattle.model.specs.Stored.{Event, noSecret}
 use Rattle.model.specs.Session.{Turn}

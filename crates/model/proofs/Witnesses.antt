@@ -1,16 +1,16 @@
 -- A witness for each status word of document 01 and for each number 1 to 11, computed: no refusal of the definition is out of reach.
-use Prim.Native.Nat.{ℕ, _+_, _*_}
-use mathlib.Core.Bool.{Bool, true, false, cond, not, _&&_, _||_}
+use Prim.Native.Nat.{ℕ, _+_}
+use mathlib.Core.Bool.{Bool, true, _&&_}
 use mathlib.Core.List.{List, [], _∷_, _++_}
 use lib.Dec.{T, eqb}
-use lib.ListN.{length, replicate}
+use lib.ListN.{length}
 use Rattle.lists.specs.Bytes.{zeros, same}
 use Rattle.model.specs.declared.Card.{Card}
 use Rattle.model.specs.Stored.{areaSize, Event, recordOf}
-use Rattle.model.specs.Session.{Turn, freshOf, playOf, Session, runOf, shownOf}
-use Rattle.model.specs.Order.{writeOf, complete}
+use Rattle.model.specs.Session.{freshOf, playOf, runOf, shownOf}
+use Rattle.model.specs.Order.{writeOf}
 use Rattle.model.proofs.Computed.{computed}
-use Rattle.model.proofs.Scenes.{Bytes, chip, blankCard, event, name, installData, selectableData, install, select, command, challenge, traceability, status, serial, startup, counter, key, table, df, ef, linear, begun, asked, loads, keys, loaded, turns, endOf, Claim, words, ends, rows, answer, starts, descriptors, stored, secret, count, number, shows, recordsOf}
+use Rattle.model.proofs.Scenes.{Bytes, chip, blankCard, event, name, selectableData, install, select, command, traceability, status, serial, startup, table, df, ef, linear, begun, asked, loads, loaded, turns, endOf, words, number}
 
 -- a session that a fresh card of capacity 10 ends with a word, in a pair of states
 pub record Last : Type 0 where

@@ -1,21 +1,20 @@
 -- A record's turn, as the owner of the card's parts makes it.
-use Prim.Native.Nat.{ℕ, _+_, _≤_}
+use Prim.Native.Nat.{ℕ, _≤_}
 use mathlib.Core.Path.{_≡_, refl, ap, sym, _∙_, subst}
-use mathlib.Core.Bool.{Bool, true, false, cond, not, _&&_}
-use mathlib.Core.List.{List, []}
+use mathlib.Core.Bool.{Bool, true, false, cond, _&&_}
+use mathlib.Core.List.{List}
 use lib.Dec.{eqb}
-use lib.ListN.{length, take, drop}
+use lib.ListN.{length, drop}
 use native.Mathlib.Omega.{arith}
 use borrow.Author.Tests.{eqb-true, eq-eqb}
 use Rattle.lists.specs.Bytes.{part, byteAt}
 use Rattle.model.specs.declared.Card.{Card}
 use Rattle.model.specs.declared.Loading.{Loading}
-use Rattle.model.specs.Stored.{eventIn, paddedZero, isKind}
 use Rattle.model.specs.Loads.{withProgress}
 use Rattle.model.specs.Rules.{Result, thence}
 use Rattle.model.specs.Command.{theEnd}
 use Rattle.model.specs.Events.{Reply, event, commanded}
-use Rattle.model.specs.Session.{Turn, refusedBy, replied, turnOf}
+use Rattle.model.specs.Session.{replied, turnOf}
 use Rattle.kinds.specs.Faults.{eventOf, faultIn}
 use Rattle.fci.specs.Answers.{Answers}
 use Rattle.steps.specs.Steps.{stateOf}

@@ -13,7 +13,7 @@ use Rattle.model.specs.declared.Verdict.{Verdict}
 use Rattle.model.specs.Rows.{rowOf, rowAt, rowTable, due}
 use Rattle.model.specs.Header.{headerOf}
 use Rattle.model.specs.Loads.{State, fileList, withTaken, withOpen, withSecret, changed}
-use Rattle.model.specs.Rules.{went, asked, failed, Rule, thence, judged, unless, wholeHead, isQuery, ruleA, ruleB, ruleC, ruleD, ruleE, ruleF, ruleG, ruleH, dueRow, roomOf, lengthOk, kept, openedAs, spanned, whole, grouping}
+use Rattle.model.specs.Rules.{went, Rule, thence, judged, unless, wholeHead, isQuery, ruleA, ruleB, ruleC, ruleD, ruleE, ruleF, ruleG, ruleH, dueRow, roomOf, lengthOk, kept, openedAs, spanned, whole, grouping}
 use Rattle.secrecy.specs.View.{Mark, seens, secretMarks, valueMarks, groupingMarks, missingIn, Hiding, view}
 use Rattle.secrecy.specs.Veil.{veilState}
 use Rattle.secrecy.proofs.Marks.{take-secret, drop-secret}

@@ -10,7 +10,7 @@ use Rattle.model.specs.declared.Card.{Card}
 use Rattle.model.specs.Stored.{eventIn, paddedZero}
 use Rattle.model.specs.Header.{headerOf}
 use Rattle.model.specs.Loads.{State}
-use Rattle.model.specs.Rules.{went, asked, failed, grouping}
+use Rattle.model.specs.Rules.{asked, failed, grouping}
 use Rattle.secrecy.specs.View.{Mark, seen, secret, groupingMarks, marksBy, marksWalk, marksIn, markAt, walked, Hiding, shownAs, view, viewRecord}
 use Rattle.secrecy.proofs.Marks.{length-view, shown-zero}
 

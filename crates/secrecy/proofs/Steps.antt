@@ -2,7 +2,6 @@
 -- state it comes to what it came to, veiled, and leaves what it left, as it may be seen.
 use Prim.Native.Nat.{ℕ}
 use mathlib.Core.Path.{_≡_, refl, ap, _∙_}
-use mathlib.Core.Bool.{true, false}
 use mathlib.Core.List.{List, _++_, append-assoc}
 use lib.ListN.{length, take, drop}
 use Rattle.model.specs.declared.Open.{Open}

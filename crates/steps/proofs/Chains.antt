@@ -1,31 +1,22 @@
 -- What each verdict makes of the rest of a grouping's rules.
-use Prim.Native.Nat.{ℕ, _+_, _-_}
-use mathlib.Core.Path.{_≡_, refl, sym, ap, _∙_}
-use mathlib.Core.Bool.{Bool, true, false, cond, _||_}
+use Prim.Native.Nat.{ℕ, _+_, _-_, _≤_}
+use mathlib.Core.Path.{_≡_, refl, subst}
+use mathlib.Core.Bool.{true, false, not, _&&_}
 use mathlib.Core.List.{List}
-use lib.Dec.{leb}
-use lib.ListN.{length, drop}
+use lib.Dec.{leb, eqb, ltb}
+use lib.ListN.{length, drop, length-drop}
 use Rattle.model.specs.declared.Head.{Head}
-use Rattle.model.specs.declared.Verdict.{Verdict}
 use Rattle.model.specs.declared.Verdict.the-variants.{Passes, Refuses}
-use Rattle.model.specs.Rows.{rowAt}
-use Rattle.model.specs.Loads.{State, fileList}
-use Rattle.model.specs.Rules.{Result, went, asked, failed, lengthOk, roomOf, dueRow, ruleD, ruleE, ruleF, ruleG, ruleH, spanned, whole}
-use borrow.Author.Tests.{eq-eqb, ne-eqb}
-use Rattle.model.specs.Loads.{withInternal, changed}
+use Rattle.model.specs.Rows.{rowAt, due}
+use Rattle.model.specs.Loads.{State, fileList, withInternal, changed}
+use Rattle.model.specs.Rules.{Result, failed, lengthOk, roomOf, dueRow, ruleD, ruleE, ruleF, ruleG, ruleH, spanned, whole}
+use borrow.Author.Tests.{eq-eqb, ne-eqb, ltb-false}
 use Rattle.model.specs.Rules.{thence, isQuery, query, ruleB, ruleC}
-use Prim.Native.Nat.{_≤_, _<_}
-use mathlib.Core.Path.{subst}
-use mathlib.Core.Bool.{not, _&&_}
 use native.Mathlib.Omega.{arith}
-use lib.Dec.{eqb, ltb}
-use lib.ListN.{length-drop}
-use borrow.Author.Tests.{ltb-false}
 use Rattle.lists.specs.Choice.{by-cond}
 use Rattle.lists.specs.Bytes.{byteAt, wordAt}
 use Rattle.model.specs.declared.Header.{Header}
 use Rattle.model.specs.declared.Header.the-variants.{Torn, Whole}
-use Rattle.model.specs.Rows.{due}
 use Rattle.model.specs.Header.{headerOf, longForm}
 use Rattle.model.specs.Rules.{Rule, aloneAtStart, bit1, bit8, challenged, ruleA, grouping}
 use Rattle.soundness.specs.Keeps.{Ends}

@@ -1,15 +1,14 @@
 -- What a command answers, by how its walk ended.
 use Prim.Native.Nat.{ℕ}
-use mathlib.Core.Path.{_≡_, refl, ap, sym, _∙_}
-use mathlib.Core.Bool.{Bool, true, false, cond}
+use mathlib.Core.Path.{_≡_, refl, ap, sym}
 use mathlib.Core.List.{List, []}
 use Rattle.lists.specs.Choice.{by-cond}
 use Rattle.model.specs.declared.Card.{Card}
 use Rattle.model.specs.declared.Loading.{Loading}
-use Rattle.model.specs.Loads.{State, withInternal, changed}
-use Rattle.model.specs.Rules.{Result, went, failed, thence, bit8}
+use Rattle.model.specs.Loads.{State}
+use Rattle.model.specs.Rules.{Result, thence, bit8}
 use Rattle.model.specs.Command.{ready, theEnd}
-use Rattle.model.specs.Events.{Reply, answerTo, errs, commanded}
+use Rattle.model.specs.Events.{answerTo, errs, commanded}
 use Rattle.steps.specs.Steps.{stateOf}
 use Rattle.load.specs.declared.End.{End}
 use Rattle.load.specs.declared.End.the-variants.{Done, Asked, Failed}

@@ -1,9 +1,9 @@
 -- A value is opened where rules a to g passed: what its bytes are then taken by.
-use Prim.Native.Nat.{ℕ, zero, suc, _+_, _-_, _≤_, _<_, min}
+use Prim.Native.Nat.{ℕ, zero, suc, _+_, _-_, _≤_, _<_}
 use lib.ListN.{length, take, drop}
 use mathlib.Core.Path.{_≡_, refl, ap, sym, _∙_, subst}
 use mathlib.Core.Bool.{true}
-use mathlib.Core.List.{List, []}
+use mathlib.Core.List.{List}
 use native.Mathlib.Omega.{arith}
 use borrow.Author.Tests.{le-leb, eq-eqb, ne-eqb}
 use Rattle.model.specs.declared.Loading.{Loading}
@@ -13,16 +13,14 @@ use Rattle.model.specs.declared.Open.{Open}
 use Rattle.model.specs.declared.Open.the-variants.{Table, Record}
 use Rattle.model.specs.Stored.{areaSize}
 use Rattle.model.specs.Rows.{rowAt}
-use Rattle.model.specs.Loads.{State, fileList, withRunning, runningOpen}
+use Rattle.model.specs.Loads.{fileList, runningOpen}
 use Rattle.model.specs.Rules.{tagSpot, laid, recordBytes, recordDone, feeding, fed, spanned, lengthOk}
 use Rattle.model.specs.Command.{isShut}
-use Rattle.soundness.proofs.Feeding.{Fed}
 use Rattle.soundness.proofs.Changes.{table-begun}
 use Rattle.soundness.proofs.Groupings.{steady-closed}
 use Rattle.soundness.proofs.RowFacts.{by-span, due-untaken, table-length}
 use Rattle.steps.specs.declared.Course.the-variants.{Feeds}
-use Rattle.steps.specs.declared.Step.{Step}
-use Rattle.steps.specs.Steps.{stateOf, on, Judges, Roomed}
+use Rattle.steps.specs.Steps.{on, Judges, Roomed}
 use Rattle.laying.specs.Records.{recordStep}
 use Rattle.laying.proofs.Laying.{lays}
 

@@ -1,18 +1,13 @@
 -- The lengths that rule f leaves of a row that stays whole.
-use Prim.Native.Nat.{ℕ, _+_, _≤_, _%_}
-use mathlib.Core.Path.{_≡_, refl, ap, sym, _∙_}
-use mathlib.Core.Bool.{Bool, true, false, _&&_, true≢false}
-use mathlib.Core.List.{List}
+use Prim.Native.Nat.{ℕ, _≤_}
+use mathlib.Core.Path.{_≡_, sym, _∙_}
+use mathlib.Core.Bool.{true, false, true≢false}
 use native.Mathlib.Omega.{arith}
-use lib.Dec.{leb, eqb}
 use borrow.Author.Tests.{leb-true}
-use Rattle.model.specs.declared.Descriptor.{Descriptor}
-use Rattle.model.specs.declared.Verdict.the-variants.{Passes}
 use Rattle.model.specs.Rows.{rowTable, rowAt}
-use Rattle.model.specs.Rules.{roomOf, lengthOk}
+use Rattle.model.specs.Rules.{lengthOk}
 use Rattle.soundness.proofs.Tests.{and-l, and-r}
 use Rattle.soundness.proofs.Taking.{by-row}
-use Rattle.soundness.proofs.RowFacts.{room-most}
 use Rattle.steps.specs.Stages.{Sized}
 
 -- no row's step is 0

@@ -1,10 +1,8 @@
 -- A walk step by step: one step, and what is left is the rest of the walk.
-use Prim.Native.Nat.{ℕ, zero, suc, _+_, _-_, _≤_, _<_}
+use Prim.Native.Nat.{ℕ, zero, suc, _-_, _≤_, _<_}
 use mathlib.Core.Path.{_≡_, refl, ap, sym, _∙_, subst}
-use mathlib.Core.Bool.{true}
 use mathlib.Core.List.{List, [], _∷_}
 use lib.ListN.{length, drop, length-drop}
-use lib.Seq.{drop-cons}
 use native.Mathlib.Nat.{le-refl}
 use native.Mathlib.Omega.{arith}
 use Rattle.model.specs.declared.Open.{Open}
@@ -19,7 +17,7 @@ use Rattle.soundness.proofs.Feeds.{Going, Walks, some-table, fed-walks}
 use Rattle.soundness.proofs.Groupings.{shut-is, steady-closed}
 use Rattle.soundness.proofs.Walks.{grouping-walks}
 use Rattle.walk.specs.Turns.{turnBy, stepOf}
-use Rattle.walk.specs.Paces.{Paced, rests, pacedOn, paced, onwardBy, onward}
+use Rattle.walk.specs.Paces.{Paced, pacedOn, paced, onwardBy, onward}
 use Rattle.walk.proofs.Shorter.{Shorter, grouping-shorter}
 
 -- what follows a step may be said otherwise where it goes on

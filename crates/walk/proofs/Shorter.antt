@@ -1,9 +1,8 @@
 -- A grouping takes bytes: fewer are left behind it.
-use Prim.Native.Nat.{ℕ, suc, _-_, _≤_}
+use Prim.Native.Nat.{ℕ, _-_, _≤_}
 use mathlib.Core.Path.{_≡_, refl}
-use mathlib.Core.List.{List, [], _∷_}
+use mathlib.Core.List.{List, _∷_}
 use lib.ListN.{length, take, drop, length-drop}
-use native.Mathlib.Nat.{le-refl}
 use native.Mathlib.Omega.{arith}
 use Rattle.lists.specs.Choice.{by-cond}
 use Rattle.model.specs.declared.Head.{Head}
@@ -14,7 +13,7 @@ use Rattle.model.specs.declared.Open.the-variants.{Shut, Table, Record}
 use Rattle.model.specs.Rows.{rowAt}
 use Rattle.model.specs.Header.{headerOf}
 use Rattle.model.specs.Loads.{State, withOpen, changed}
-use Rattle.model.specs.Rules.{Result, went, asked, failed, Rule, thence, does, kept, tableBytes, feeding, fed, openedAs, spanned, whole, ruleB, ruleC, ruleD, ruleE, ruleF, ruleG, ruleH, grouping}
+use Rattle.model.specs.Rules.{Result, went, asked, failed, Rule, thence, kept, tableBytes, feeding, fed, openedAs, spanned, whole, ruleB, ruleC, ruleD, ruleE, ruleF, ruleG, ruleH, grouping}
 use Rattle.soundness.specs.Keeps.{Ends}
 use Rattle.steps.proofs.Chains.{a-whole, a-torn, head-sized}
 

@@ -1,9 +1,8 @@
 -- What a step says is what the definition's step comes to.
-use Prim.Native.Nat.{ℕ, _+_, _-_, _≤_, _<_, min}
+use Prim.Native.Nat.{ℕ, _+_, _-_, _≤_, _<_}
 use mathlib.Core.Path.{_≡_, refl, ap, sym, _∙_, subst}
 use mathlib.Core.Bool.{true}
 use mathlib.Core.List.{List, []}
-use lib.Dec.{eqb}
 use lib.ListN.{length, drop}
 use native.Mathlib.Omega.{arith}
 use borrow.Author.Tests.{eq-eqb, leb-true}
@@ -18,14 +17,13 @@ use Rattle.model.specs.declared.Spot.the-variants.{Nowhere, At}
 use Rattle.model.specs.Stored.{areaSize}
 use Rattle.model.specs.Rows.{rowOf}
 use Rattle.model.specs.Header.{headerOf}
-use Rattle.model.specs.Loads.{fileList, withRunning}
+use Rattle.model.specs.Loads.{fileList}
 use Rattle.model.specs.Rules.{tagSpot, fed, feeding}
 use Rattle.model.specs.Sound.{someMissing}
 use Rattle.soundness.proofs.Inside.{Steady}
 use Rattle.soundness.proofs.Feeding.{Misses, Fed}
 use Rattle.steps.specs.declared.Course.the-variants.{Feeds}
-use Rattle.steps.specs.declared.Step.{Step}
-use Rattle.steps.specs.Steps.{stateOf, on, missingIn, Judges, Within}
+use Rattle.steps.specs.Steps.{on, missingIn, Judges, Within}
 use Rattle.laying.specs.Records.{recordStep}
 use Rattle.laying.proofs.Laying.{lays}
 use Rattle.walk.specs.Turns.{wantedTag, Fits, turnBy, stepOf}

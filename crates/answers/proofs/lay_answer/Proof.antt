@@ -17,22 +17,13 @@ challenge-long s = search needs
 traceability-long : (s : tie.Start) → length (s .args .c .chip .traceability) ≡ 16
 traceability-long s = search needs
 
-slice-aggregate-put-bytes : tie.Need-slice-aggregate-put-bytes
-slice-aggregate-put-bytes c = search needs
-
 put-bytes-requires : tie.Need-put-bytes-requires
 put-bytes-requires c κs = omega (arith, reference-long (c .before .before .before .before .before .before .before))
-
-slice-aggregate-put-bytes-2 : tie.Need-slice-aggregate-put-bytes-2
-slice-aggregate-put-bytes-2 c = search needs
 
 put-bytes-requires-2 : tie.Need-put-bytes-requires-2
 put-bytes-requires-2 c κs =
     let first = c .before .before .before .before in
     omega (arith, challenge-long (first .before .before .before .before .before .before .before .before))
-
-same-length : tie.Need-same-length
-same-length c = search needs
 
 returns : tie.Need-returns
 returns c =
@@ -45,14 +36,8 @@ returns c =
       reference-laid (now (s .args .answer)) _ _ (reference-long s) (first .put-bytes .ensures) (second .put-bytes2 .ensures),
     )
 
-slice-aggregate-put-bytes-3 : tie.Need-slice-aggregate-put-bytes-3
-slice-aggregate-put-bytes-3 c = search needs
-
 put-bytes-requires-3 : tie.Need-put-bytes-requires-3
 put-bytes-requires-3 c κs = omega (arith, traceability-long (c .before .before .before .before .before .before .before))
-
-same-length-2 : tie.Need-same-length-2
-same-length-2 c = search needs
 
 returns-2 : tie.Need-returns-2
 returns-2 c =
@@ -61,15 +46,6 @@ returns-2 c =
     let first = second .before in
     let s = first .before .before .before in
     rw (asks-traceability (s .args .c) (s .args .tag) (first .if1 .left) (second .if2 .taken)) (sym (traceability-long s), laid .put-bytes3 .ensures)
-
-slice-aggregate-put-bytes-4 : tie.Need-slice-aggregate-put-bytes-4
-slice-aggregate-put-bytes-4 c = search needs
-
-put-bytes-requires-4 : tie.Need-put-bytes-requires-4
-put-bytes-requires-4 c κs = search needs
-
-same-length-3 : tie.Need-same-length-3
-same-length-3 c = search needs
 
 returns-3 : tie.Need-returns-3
 returns-3 c =
@@ -80,18 +56,6 @@ returns-3 c =
 pub lay-answer-spec : {M : Type 1} → statement M
 lay-answer-spec =
     tie.close
-    (tie.spec
-    slice-aggregate-put-bytes
-    put-bytes-requires
-    slice-aggregate-put-bytes-2
-    put-bytes-requires-2
-    same-length
-    returns
-    slice-aggregate-put-bytes-3
-    put-bytes-requires-3
-    same-length-2
-    returns-2
-    slice-aggregate-put-bytes-4
-    put-bytes-requires-4
-    same-length-3
-    returns-3)
+    (tie.spec (λ c. search needs) put-bytes-requires (λ c. search needs) put-bytes-requires-2
+    (λ c. search needs) returns (λ c. search needs) put-bytes-requires-3 (λ c. search needs) returns-2
+    (λ c. search needs) (λ c κs. search needs) (λ c. search needs) returns-3)

@@ -18,15 +18,6 @@ abbrev μ-loop : tie.MeasureT-loop
 loop-holds : tie.Need-loop-holds Inv-loop μ-loop
 loop-holds c = refl
 
-shared-slice-read-if1 : tie.Need-shared-slice-read-if1 Inv-loop μ-loop
-shared-slice-read-if1 c = search needs
-
-add-i : tie.Need-add-i Inv-loop μ-loop
-add-i c = search needs
-
-loop-less : tie.Need-loop-less Inv-loop μ-loop
-loop-less c = search needs
-
 loop-again : tie.Need-loop-again Inv-loop μ-loop
 loop-again c =
     let b = c .before .before .before in
@@ -42,4 +33,4 @@ returns c = sym (c .before .loop .inv ∙ rw (zero-end _ _ (c .loop-test .left))
 pub zero-from-spec : {M : Type 1} → statement M
 zero-from-spec =
     tie.close
-    (tie.spec Inv-loop μ-loop loop-holds shared-slice-read-if1 add-i loop-less loop-again returns)
+    (tie.spec Inv-loop μ-loop loop-holds (search needs) (search needs) (search needs) loop-again returns)

@@ -7,26 +7,14 @@ use Rattle.model.specs.Session.{playOf}
 use Rattle.card.proofs.play.Statement.{statement}
 use Rattle.card.proofs.play.Tie as tie
 
-refused-by-requires : tie.Need-refused-by-requires
-refused-by-requires c κs = search needs
-
 returns : tie.Need-returns
 unfolding playOf
 returns c = rw (c .refused-by .ensures, ne-eqb _ _ (c .before .if1 .taken)) (refused 1 _ _ _)
-
-refused-by-requires-2 : tie.Need-refused-by-requires-2
-refused-by-requires-2 c κs = search needs
 
 returns-2 : tie.Need-returns-2
 unfolding playOf
 returns-2 c =
     rw (c .refused-by2 .ensures, eq-eqb _ _ (c .before .before .if1 .left), lt-ltb _ _ (c .before .if2 .taken)) (refused 2 _ _ _)
-
-is-sound-requires : tie.Need-is-sound-requires
-is-sound-requires c κs = search needs
-
-refused-by-requires-3 : tie.Need-refused-by-requires-3
-refused-by-requires-3 c κs = search needs
 
 returns-3 : tie.Need-returns-3
 unfolding playOf
@@ -37,19 +25,10 @@ turn-requires : tie.Need-turn-requires
 turn-requires c κs =
     (record { sound = sym (c .before .before .before .before .is-sound .ensures .0) ∙ c .before .before .before .if3 .taken; files = c .before .before .before .before .is-sound .ensures .1; area = c .before .before .before .before .before .before .if1 .left }, omega arith, c .before .before .if4 .left)
 
-same-length : tie.Need-same-length
-same-length c = search needs
-
-same-length-2 : tie.Need-same-length-2
-same-length-2 c = search needs
-
 returns-4 : tie.Need-returns-4
 unfolding playOf
 returns-4 c =
     rw (eq-eqb _ _ (c .before .before .before .before .before .before .before .before .before .before .before .if1 .left), le-ltb _ _ (c .before .before .before .before .before .before .before .before .before .before .if2 .left), ← c .before .before .before .before .before .before .before .before .before .is-sound .ensures .0, c .before .before .before .before .before .before .before .before .if3 .taken, eq-eqb _ _ (c .before .before .before .before .before .before .before .if4 .left)) (c .before .before .before .before .turn .ensures)
-
-refused-by-requires-4 : tie.Need-refused-by-requires-4
-refused-by-requires-4 c κs = search needs
 
 returns-5 : tie.Need-returns-5
 unfolding playOf
@@ -59,17 +38,5 @@ returns-5 c =
 pub play-spec : {M : Type 1} → statement M
 play-spec =
     tie.close
-    (tie.spec
-    refused-by-requires
-    returns
-    refused-by-requires-2
-    returns-2
-    is-sound-requires
-    refused-by-requires-3
-    returns-3
-    turn-requires
-    same-length
-    same-length-2
-    returns-4
-    refused-by-requires-4
-    returns-5)
+    (tie.spec (search needs) returns (search needs) returns-2 (search needs) (search needs) returns-3
+    turn-requires (search needs) (search needs) returns-4 (search needs) returns-5)

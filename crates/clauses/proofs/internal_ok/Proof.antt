@@ -6,14 +6,8 @@ use Rattle.clauses.proofs.internal_ok.Tie as tie
 returns : tie.Need-returns
 returns c = search cases
 
-is-07-or-87-requires : tie.Need-is-07-or-87-requires
-is-07-or-87-requires c κs = search needs
-
 returns-2 : tie.Need-returns-2
 returns-2 c = search cases
-
-is-07-or-87-requires-2 : tie.Need-is-07-or-87-requires-2
-is-07-or-87-requires-2 c κs = search needs
 
 returns-3 : tie.Need-returns-3
 returns-3 c = search cases
@@ -24,4 +18,4 @@ returns-4 c = search cases
 pub internal-ok-spec : {M : Type 1} → statement M
 internal-ok-spec =
     tie.close
-    (tie.spec returns is-07-or-87-requires returns-2 is-07-or-87-requires-2 returns-3 returns-4)
+    (tie.spec returns (search needs) returns-2 (search needs) returns-3 returns-4)

@@ -2,18 +2,6 @@ use borrow.Author.Needs.{needs}
 use Rattle.clauses.proofs.life_ok.Statement.{statement}
 use Rattle.clauses.proofs.life_ok.Tie as tie
 
-gp-ok-requires : tie.Need-gp-ok-requires
-gp-ok-requires c κs = search needs
-
-internal-ok-requires : tie.Need-internal-ok-requires
-internal-ok-requires c κs = search needs
-
-name-ok-requires : tie.Need-name-ok-requires
-name-ok-requires c κs = search needs
-
-selected-ok-requires : tie.Need-selected-ok-requires
-selected-ok-requires c κs = search needs
-
 returns : tie.Need-returns
 returns c =
     let n = c .before .before in
@@ -40,12 +28,5 @@ returns-4 c = simp (← c .before .gp-ok .ensures, c .if1 .left)
 pub life-ok-spec : {M : Type 1} → statement M
 life-ok-spec =
     tie.close
-    (tie.spec
-    gp-ok-requires
-    internal-ok-requires
-    name-ok-requires
-    selected-ok-requires
-    returns
-    returns-2
-    returns-3
+    (tie.spec (search needs) (search needs) (search needs) (search needs) returns returns-2 returns-3
     returns-4)

@@ -5,27 +5,6 @@ use Rattle.complete.proofs.Complete.{laid-behind, complete-behind}
 use Rattle.complete.proofs.is_complete.Statement.{statement}
 use Rattle.complete.proofs.is_complete.Tie as tie
 
-slice-aggregate-lay : tie.Need-slice-aggregate-lay
-slice-aggregate-lay c = search needs
-
-slice-aggregate-lay-2 : tie.Need-slice-aggregate-lay-2
-slice-aggregate-lay-2 c = search needs
-
-lay-requires : tie.Need-lay-requires
-lay-requires c κs = search needs
-
-slice-aggregate-put-bytes : tie.Need-slice-aggregate-put-bytes
-slice-aggregate-put-bytes c = search needs
-
-put-bytes-requires : tie.Need-put-bytes-requires
-put-bytes-requires c κs = search needs
-
-add-end : tie.Need-add-end
-add-end c = search needs
-
-array-share-prefix-data : tie.Need-array-share-prefix-data
-array-share-prefix-data c = search needs
-
 slice-aggregate-passes-behind : tie.Need-slice-aggregate-passes-behind
 slice-aggregate-passes-behind c =
     let o = now (c .before .before .before .before .before .before .before .before .before .args .order) in
@@ -52,14 +31,5 @@ returns c =
 pub is-complete-spec : {M : Type 1} → statement M
 is-complete-spec =
     tie.close
-    (tie.spec
-    slice-aggregate-lay
-    slice-aggregate-lay-2
-    lay-requires
-    slice-aggregate-put-bytes
-    put-bytes-requires
-    add-end
-    array-share-prefix-data
-    slice-aggregate-passes-behind
-    passes-behind-requires
-    returns)
+    (tie.spec (search needs) (search needs) (search needs) (search needs) (search needs) (search needs)
+    (search needs) slice-aggregate-passes-behind passes-behind-requires returns)

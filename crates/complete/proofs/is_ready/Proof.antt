@@ -4,14 +4,8 @@ use Rattle.complete.proofs.Complete.{missing-not, ready-so}
 use Rattle.complete.proofs.is_ready.Statement.{statement}
 use Rattle.complete.proofs.is_ready.Tie as tie
 
-mandatory-missing-requires : tie.Need-mandatory-missing-requires
-mandatory-missing-requires c κs = search needs
-
 returns : tie.Need-returns
 returns c = λ a. missing-not (c .before .before .args .l) a (sym (c .before .mandatory-missing .ensures) ∙ c .if1 .taken)
-
-is-shut-requires : tie.Need-is-shut-requires
-is-shut-requires c κs = search needs
 
 returns-2 : tie.Need-returns-2
 returns-2 c =
@@ -20,4 +14,4 @@ returns-2 c =
     λ a. ready-so (args .l) a (c .is-shut .result) (sym (mandatory-missing .ensures) ∙ c .before .before .if1 .left) (c .is-shut .ensures)
 
 pub is-ready-spec : {M : Type 1} → statement M
-is-ready-spec = tie.close (tie.spec mandatory-missing-requires returns is-shut-requires returns-2)
+is-ready-spec = tie.close (tie.spec (search needs) returns (search needs) returns-2)

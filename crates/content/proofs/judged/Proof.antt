@@ -47,15 +47,5 @@ returns-7 c = search cases
 pub judged-spec : {M : Type 1} → statement M
 judged-spec =
     tie.close
-    (tie.spec
-    returns
-    shared-slice-read-if2
-    returns-2
-    shared-slice-read-if3
-    returns-3
-    shared-slice-read-if4
-    returns-4
-    shared-slice-read-if5
-    returns-5
-    returns-6
-    returns-7)
+    (tie.spec returns shared-slice-read-if2 returns-2 shared-slice-read-if3 returns-3 shared-slice-read-if4
+    returns-4 shared-slice-read-if5 returns-5 returns-6 returns-7)

@@ -34,18 +34,6 @@ returns-3 c =
       eq-eqb _ _ (i .if3 .taken),
     )
 
-secret-place-requires : tie.Need-secret-place-requires
-secret-place-requires c κs = search needs
-
-padded64-requires : tie.Need-padded64-requires
-padded64-requires c κs = search needs
-
-mul-secret : tie.Need-mul-secret
-mul-secret c = search needs
-
-element-set-from-secret : tie.Need-element-set-from-secret
-element-set-from-secret c = search needs
-
 returns-4 : tie.Need-returns-4
 returns-4 c =
     let i = c .before .before in
@@ -60,15 +48,5 @@ returns-4 c =
 pub kept-as-spec : {M : Type 1} → statement M
 kept-as-spec =
     tie.close
-    (tie.spec
-    padded8-requires
-    returns
-    startup-of-requires
-    returns-2
-    counter-in-requires
-    returns-3
-    secret-place-requires
-    padded64-requires
-    mul-secret
-    element-set-from-secret
-    returns-4)
+    (tie.spec padded8-requires returns startup-of-requires returns-2 counter-in-requires returns-3
+    (search needs) (search needs) (search needs) (search needs) returns-4)

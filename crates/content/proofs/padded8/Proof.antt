@@ -4,14 +4,8 @@ use borrow.Author.Needs.{needs}
 use Rattle.content.proofs.padded8.Statement.{statement}
 use Rattle.content.proofs.padded8.Tie as tie
 
-slice-aggregate-lay : tie.Need-slice-aggregate-lay
-slice-aggregate-lay c = search needs
-
-lay-requires : tie.Need-lay-requires
-lay-requires c κs = search needs
-
 returns : tie.Need-returns
 returns c = c .before .lay .ensures ∙ over-padded 8 _ (search needs)
 
 pub padded8-spec : {M : Type 1} → statement M
-padded8-spec = tie.close (tie.spec slice-aggregate-lay lay-requires returns)
+padded8-spec = tie.close (tie.spec (search needs) (search needs) returns)

@@ -10,18 +10,6 @@ use Rattle.content.proofs.Facts.{first-stays, first-set}
 use Rattle.content.proofs.startup_of.Statement.{statement}
 use Rattle.content.proofs.startup_of.Tie as tie
 
-slice-aggregate-lay : tie.Need-slice-aggregate-lay
-slice-aggregate-lay c = search needs
-
-lay-requires : tie.Need-lay-requires
-lay-requires c κs = search needs
-
-shared-slice-read-if1 : tie.Need-shared-slice-read-if1
-shared-slice-read-if1 c = search needs
-
-array-write-b : tie.Need-array-write-b
-array-write-b c = search needs
-
 returns : tie.Need-returns
 returns c =
     let y = c .before .before .before in
@@ -38,10 +26,4 @@ returns-2 c =
 pub startup-of-spec : {M : Type 1} → statement M
 startup-of-spec =
     tie.close
-    (tie.spec
-    slice-aggregate-lay
-    lay-requires
-    shared-slice-read-if1
-    array-write-b
-    returns
-    returns-2)
+    (tie.spec (search needs) (search needs) (search needs) (search needs) returns returns-2)

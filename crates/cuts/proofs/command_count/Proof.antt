@@ -48,13 +48,5 @@ returns c =
 pub command-count-spec : {M : Type 1} → statement M
 command-count-spec =
     tie.close
-    (tie.spec
-    Inv-loop
-    μ-loop
-    command-end-requires
-    loop-holds
-    command-end-requires-2
-    add-count
-    loop-less
-    loop-again
-    returns)
+    (tie.spec Inv-loop μ-loop command-end-requires loop-holds command-end-requires-2 add-count loop-less
+    loop-again returns)

@@ -70,15 +70,5 @@ returns-2 c =
 pub command-end-spec : {M : Type 1} → statement M
 command-end-spec =
     tie.close
-    (tie.spec
-    Inv-loop
-    μ-loop
-    loop-holds
-    sub-room
-    sub-room-2
-    step-at-requires
-    returns
-    add-at
-    loop-less
-    loop-again
-    returns-2)
+    (tie.spec Inv-loop μ-loop loop-holds sub-room sub-room-2 step-at-requires returns add-at loop-less
+    loop-again returns-2)

@@ -9,34 +9,10 @@ use Rattle.model.specs.declared.Header.the-variants.{Torn, Whole}
 use Rattle.cuts.proofs.step_at.Statement.{statement}
 use Rattle.cuts.proofs.step_at.Tie as tie
 
-sub-left : tie.Need-sub-left
-sub-left c = search needs
-
-least-requires : tie.Need-least-requires
-least-requires c κs = search needs
-
-least-requires-2 : tie.Need-least-requires-2
-least-requires-2 c κs = search needs
-
-sub-t11 : tie.Need-sub-t11
-sub-t11 c = search needs
-
 returns : tie.Need-returns
 returns c =
     let a = c .before .before .before .before .args in
     rw (c .least2 .ensures, c .before .least .ensures) (sym (step-inside (now (a .order)) (a .at) (a .inside) (a .room) (omega arith)))
-
-header-at-requires : tie.Need-header-at-requires
-header-at-requires c κs = search needs
-
-enum-told : tie.Need-enum-told
-enum-told c = search needs
-
-unit-step-requires : tie.Need-unit-step-requires
-unit-step-requires c κs = search needs
-
-enum-known-h : tie.Need-enum-known-h
-enum-known-h c = search needs
 
 grouping-step-requires : tie.Need-grouping-step-requires
 grouping-step-requires c κs =
@@ -62,16 +38,5 @@ returns-3 c =
 pub step-at-spec : {M : Type 1} → statement M
 step-at-spec =
     tie.close
-    (tie.spec
-    sub-left
-    least-requires
-    least-requires-2
-    sub-t11
-    returns
-    header-at-requires
-    enum-told
-    unit-step-requires
-    enum-known-h
-    grouping-step-requires
-    returns-2
-    returns-3)
+    (tie.spec (search needs) (search needs) (search needs) (search needs) returns (search needs)
+    (search needs) (search needs) (search needs) grouping-step-requires returns-2 returns-3)

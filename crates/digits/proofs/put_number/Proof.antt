@@ -3,18 +3,6 @@ use borrow.Author.Needs.{needs}
 use Rattle.digits.proofs.put_number.Statement.{statement}
 use Rattle.digits.proofs.put_number.Tie as tie
 
-width-requires : tie.Need-width-requires
-width-requires c κs = search needs
-
-put-digits-requires : tie.Need-put-digits-requires
-put-digits-requires c κs = search needs
-
-add-result : tie.Need-add-result
-add-result c = search needs
-
-same-length : tie.Need-same-length
-same-length c = search needs
-
 returns : tie.Need-returns
 returns c =
     let d = c .before .before .put-digits .ensures in
@@ -23,4 +11,4 @@ returns c =
 
 pub put-number-spec : {M : Type 1} → statement M
 put-number-spec =
-    tie.close (tie.spec width-requires put-digits-requires add-result same-length returns)
+    tie.close (tie.spec (search needs) (search needs) (search needs) (search needs) returns)

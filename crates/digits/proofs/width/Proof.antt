@@ -1,9 +1,9 @@
-use Prim.Native.Nat.{_+_, _-_, _≤_, _<_}
+use borrow.Author.Needs.{needs}
+use Prim.Native.Nat.{_+_, _-_, _≤_, _<_, _^_}
 use mathlib.Core.Path.{_≡_, refl, _∙_}
 use native.Mathlib.Omega.{arith}
 use Rattle.hex.proofs.Digits.{width-room, width-small, width-again, width-one}
 use Rattle.hex.specs.Trace.{widthOf, widthWith}
-use Prim.Native.Nat.{_^_}
 use Rattle.digits.proofs.width.Statement.{statement}
 use Rattle.digits.proofs.width.Tie as tie
 
@@ -15,9 +15,6 @@ abbrev μ-loop : tie.MeasureT-loop
 
 loop-holds : tie.Need-loop-holds Inv-loop μ-loop
 loop-holds c = (omega arith, omega arith, omega arith, refl)
-
-add-w : tie.Need-add-w Inv-loop μ-loop
-add-w c = omega arith
 
 loop-less : tie.Need-loop-less Inv-loop μ-loop
 loop-less c =
@@ -37,4 +34,4 @@ returns c =
     (omega (arith, l .inv .3, width-one (20 - l .w) (l .rest) (omega arith)), omega arith, omega arith)
 
 pub width-spec : {M : Type 1} → statement M
-width-spec = tie.close (tie.spec Inv-loop μ-loop loop-holds add-w loop-less loop-again returns)
+width-spec = tie.close (tie.spec Inv-loop μ-loop loop-holds (λ c. search needs) loop-less loop-again returns)

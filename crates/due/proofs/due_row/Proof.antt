@@ -4,15 +4,9 @@ use Rattle.model.specs.Rules.{dueRow}
 use Rattle.due.proofs.due_row.Statement.{statement}
 use Rattle.due.proofs.due_row.Tie as tie
 
-row-of-requires : tie.Need-row-of-requires
-row-of-requires c κs = search needs
-
 returns : tie.Need-returns
 unfolding dueRow
 returns c = simp (← c .before .row-of .ensures .0, eq-eqb _ _ (c .if1 .taken))
-
-is-due-requires : tie.Need-is-due-requires
-is-due-requires c κs = search needs
 
 returns-2 : tie.Need-returns-2
 unfolding dueRow
@@ -25,4 +19,4 @@ returns-3 c =
     simp (← c .before .before .before .row-of .ensures .0, ne-eqb _ _ (c .before .before .if1 .left), ← c .before .is-due .ensures, c .if2 .left)
 
 pub due-row-spec : {M : Type 1} → statement M
-due-row-spec = tie.close (tie.spec row-of-requires returns is-due-requires returns-2 returns-3)
+due-row-spec = tie.close (tie.spec (search needs) returns (search needs) returns-2 returns-3)

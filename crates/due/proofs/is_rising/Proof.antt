@@ -3,9 +3,6 @@ use Rattle.model.specs.Rows.{rising}
 use Rattle.due.proofs.is_rising.Statement.{statement}
 use Rattle.due.proofs.is_rising.Tie as tie
 
-is-taken-requires : tie.Need-is-taken-requires
-is-taken-requires c κs = search needs
-
 returns : tie.Need-returns
 unfolding rising
 returns c = simp (← c .before .is-taken .ensures, c .if1 .taken)
@@ -15,4 +12,4 @@ unfolding rising
 returns-2 c = simp (← c .before .is-taken .ensures, c .if1 .left)
 
 pub is-rising-spec : {M : Type 1} → statement M
-is-rising-spec = tie.close (tie.spec is-taken-requires returns returns-2)
+is-rising-spec = tie.close (tie.spec (search needs) returns returns-2)

@@ -8,24 +8,6 @@ use Rattle.lists.specs.Over.{length-over}
 use Rattle.ending.proofs.put_end.Statement.{statement}
 use Rattle.ending.proofs.put_end.Tie as tie
 
-slice-aggregate-put-bytes : tie.Need-slice-aggregate-put-bytes
-slice-aggregate-put-bytes c = search needs
-
-put-bytes-requires : tie.Need-put-bytes-requires
-put-bytes-requires c κs = search needs
-
-add-put-five : tie.Need-add-put-five
-add-put-five c = search needs
-
-put-five-requires : tie.Need-put-five-requires
-put-five-requires c κs = search needs
-
-add-out : tie.Need-add-out
-add-out c = search needs
-
-slice-write-out : tie.Need-slice-write-out
-slice-write-out c = search needs
-
 returns : tie.Need-returns
 unfolding endOf
 returns c =
@@ -38,12 +20,5 @@ same-length c = ap length (returns c) ∙ length-over _ _ _
 pub put-end-spec : {M : Type 1} → statement M
 put-end-spec =
     tie.close
-    (tie.spec
-    slice-aggregate-put-bytes
-    put-bytes-requires
-    add-put-five
-    put-five-requires
-    add-out
-    slice-write-out
-    same-length
-    returns)
+    (tie.spec (search needs) (search needs) (search needs) (search needs) (search needs) (search needs)
+    same-length returns)

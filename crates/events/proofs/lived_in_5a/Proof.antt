@@ -1,24 +1,12 @@
-use Prim.Native.Nat.{ℕ, suc, _+_, _*_, _-_, _≤_, _<_, _/_, _%_}
-use mathlib.Core.Path.{_≡_, refl, ap, sym, _∙_}
-use mathlib.Core.List.{List, [], _∷_, _++_}
-use native.Mathlib.Omega.{arith}
-use native.Mathlib.Numerals.{add-one}
-use lib.ListN.{length, take, drop, set, getD, length-set, length-take, length-drop, length-append}
+use Prim.Native.Nat.{_-_}
 use denote.Ref.{now}
 use borrow.Author.Needs.{needs}
 use Rattle.events.proofs.lived_in_5a.Statement.{statement}
 use Rattle.events.proofs.lived_in_5a.Tie as tie
-use Rattle.events.proofs.lived_in_5a.Reads as reads
-use Rattle.events.proofs.lived_in_5a.Lts as lts
-use Rattle.events.proofs.locked.Reads as locked-reads
-use Rattle.events.proofs.told_stuck.Reads as told-stuck-reads
-use mathlib.Core.Bool.{true, false}
+use mathlib.Core.Bool.{false}
 use Rattle.model.specs.Loads.{withNoneOpen}
 use Rattle.fci.specs.Answers.{said}
 use Rattle.events.proofs.ByKind.{event-loads, event-locks, event-stuck, data-locks, data-unselected}
-
-locked-requires : tie.Need-locked-requires
-locked-requires c κs = search needs
 
 returns : tie.Need-returns
 returns c =
@@ -38,12 +26,6 @@ told-stuck-requires : tie.Need-told-stuck-requires
 told-stuck-requires c κs =
     (c .before .before .before .before .before .before .before .pre .0, c .before .before .before .before .before .before .before .pre .1)
 
-locked-requires-2 : tie.Need-locked-requires-2
-locked-requires-2 c κs = search needs
-
-same-length : tie.Need-same-length
-same-length c = search needs
-
 returns-3 : tie.Need-returns-3
 returns-3 c =
     let s = c .before .before .before .before .before .before .before .before .before .before .before .args in
@@ -55,9 +37,6 @@ told-stuck-requires-2 : tie.Need-told-stuck-requires-2
 told-stuck-requires-2 c κs =
     (c .before .before .before .before .before .before .pre .0, c .before .before .before .before .before .before .pre .1)
 
-same-length-2 : tie.Need-same-length-2
-same-length-2 c = search needs
-
 returns-4 : tie.Need-returns-4
 returns-4 c =
     let s = c .before .before .before .before .before .before .before .before .before .args in
@@ -68,14 +47,5 @@ returns-4 c =
 pub lived-in-5a-spec : {M : Type 1} → statement M
 lived-in-5a-spec =
     tie.close
-    (tie.spec
-    locked-requires
-    returns
-    returns-2
-    told-stuck-requires
-    locked-requires-2
-    same-length
-    returns-3
-    told-stuck-requires-2
-    same-length-2
-    returns-4)
+    (tie.spec (search needs) returns returns-2 told-stuck-requires (search needs) (search needs) returns-3
+    told-stuck-requires-2 (search needs) returns-4)

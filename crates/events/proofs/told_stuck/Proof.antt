@@ -1,30 +1,11 @@
-use Prim.Native.Nat.{ℕ, suc, _+_, _*_, _-_, _≤_, _<_, _/_, _%_}
-use mathlib.Core.Path.{_≡_, refl, ap, sym, _∙_}
-use mathlib.Core.List.{List, [], _∷_, _++_}
-use native.Mathlib.Omega.{arith}
-use native.Mathlib.Numerals.{add-one}
-use lib.ListN.{length, take, drop, set, getD, length-set, length-take, length-drop, length-append}
-use denote.Ref.{now}
+use Prim.Native.Nat.{_-_}
 use borrow.Author.Needs.{needs}
 use Rattle.events.proofs.told_stuck.Statement.{statement}
 use Rattle.events.proofs.told_stuck.Tie as tie
-use Rattle.events.proofs.told_stuck.Reads as reads
-use Rattle.events.proofs.told_stuck.Lts as lts
-use Rattle.fci.proofs.lay_name_fci.Reads as lay-name-fci-reads
-use Rattle.names.proofs.is_named.Reads as is-named-reads
 use borrow.Author.Tests.{eq-eqb, ne-eqb}
 use Rattle.model.specs.Events.{stuck, isName, nameFci}
 use Rattle.fci.specs.Answers.{said, gave}
 use Rattle.events.specs.Lives.{alike}
-
-is-named-requires : tie.Need-is-named-requires
-is-named-requires c κs = search needs
-
-lay-name-fci-requires : tie.Need-lay-name-fci-requires
-lay-name-fci-requires c κs = search needs
-
-same-length : tie.Need-same-length
-same-length c = search needs
 
 returns : tie.Need-returns
 unfolding stuck isName nameFci
@@ -54,12 +35,4 @@ returns-5 c =
 pub told-stuck-spec : {M : Type 1} → statement M
 told-stuck-spec =
     tie.close
-    (tie.spec
-    is-named-requires
-    lay-name-fci-requires
-    same-length
-    returns
-    returns-2
-    returns-3
-    returns-4
-    returns-5)
+    (tie.spec (search needs) (search needs) (search needs) returns returns-2 returns-3 returns-4 returns-5)

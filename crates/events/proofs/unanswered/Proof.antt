@@ -8,16 +8,10 @@ use Rattle.events.proofs.unanswered.Tie as tie
 installed-by-requires : tie.Need-installed-by-requires
 installed-by-requires c κs = let p = c .before .before .before .before .pre .0 in (p .area, good-name _ _ p)
 
-same-length : tie.Need-same-length
-same-length c = search needs
-
 returns : tie.Need-returns
 unfolding otherwise
 returns c =
     rw (eq-eqb _ _ (c .before .before .before .before .if1 .taken)) (c .before .before .installed-by .ensures)
-
-answered-foreign-requires : tie.Need-answered-foreign-requires
-answered-foreign-requires c κs = search needs
 
 returns-2 : tie.Need-returns-2
 unfolding otherwise
@@ -27,9 +21,6 @@ returns-2 c =
     let pre = one .before .before .before .pre in
     rw (ne-eqb _ _ (one .if1 .left), pre .1, pre .2, eq-eqb _ _ (two .if2 .taken)) (c .answered-foreign .ensures _)
 
-locked-by-requires : tie.Need-locked-by-requires
-locked-by-requires c κs = search needs
-
 returns-3 : tie.Need-returns-3
 unfolding otherwise
 returns-3 c =
@@ -38,9 +29,6 @@ returns-3 c =
     let one = two .before in
     let pre = one .before .before .before .pre in
     rw (ne-eqb _ _ (one .if1 .left), pre .1, pre .2, ne-eqb _ _ (two .if2 .left), eq-eqb _ _ (three .if3 .taken)) (c .locked-by .ensures _)
-
-unlocked-by-requires : tie.Need-unlocked-by-requires
-unlocked-by-requires c κs = search needs
 
 returns-4 : tie.Need-returns-4
 unfolding otherwise
@@ -52,9 +40,6 @@ returns-4 c =
     let pre = one .before .before .before .pre in
     rw (ne-eqb _ _ (one .if1 .left), pre .1, pre .2, ne-eqb _ _ (two .if2 .left), ne-eqb _ _ (three .if3 .left), eq-eqb _ _ (four .if4 .taken))
     (c .unlocked-by .ensures _)
-
-deselected-requires : tie.Need-deselected-requires
-deselected-requires c κs = search needs
 
 returns-5 : tie.Need-returns-5
 unfolding otherwise
@@ -70,15 +55,5 @@ returns-5 c =
 pub unanswered-spec : {M : Type 1} → statement M
 unanswered-spec =
     tie.close
-    (tie.spec
-    installed-by-requires
-    same-length
-    returns
-    answered-foreign-requires
-    returns-2
-    locked-by-requires
-    returns-3
-    unlocked-by-requires
-    returns-4
-    deselected-requires
-    returns-5)
+    (tie.spec installed-by-requires (search needs) returns (search needs) returns-2 (search needs) returns-3
+    (search needs) returns-4 (search needs) returns-5)

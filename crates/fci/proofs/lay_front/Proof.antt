@@ -16,21 +16,6 @@ name-there s = let e : length (s .args .life .name) ≡ 16 = search needs in ome
 name-long : (s : tie.Start) → length (take (s .args .life .namelen) (s .args .life .name)) ≡ s .args .life .namelen
 name-long s = length-take-le (s .args .life .namelen) (s .args .life .name) (name-there s)
 
-add-t7 : tie.Need-add-t7
-add-t7 c = search needs
-
-cast-t8 : tie.Need-cast-t8
-cast-t8 c = search needs
-
-cast-t9 : tie.Need-cast-t9
-cast-t9 c = search needs
-
-slice-aggregate-put-bytes : tie.Need-slice-aggregate-put-bytes
-slice-aggregate-put-bytes c = search needs
-
-put-bytes-requires : tie.Need-put-bytes-requires
-put-bytes-requires c κs = search needs
-
 array-share-prefix-name : tie.Need-array-share-prefix-name
 array-share-prefix-name c = let first = c .before .before .before in name-there (first .before .before .before .before .before)
 
@@ -39,9 +24,6 @@ slice-aggregate-put-bytes-2 c = let first = c .before .before .before .before in
 
 put-bytes-requires-2 : tie.Need-put-bytes-requires-2
 put-bytes-requires-2 c κs = let first = c .before .before .before .before in omega (arith, name-long (first .before .before .before .before .before))
-
-same-length : tie.Need-same-length
-same-length c = search needs
 
 returns : tie.Need-returns
 returns c =
@@ -53,14 +35,5 @@ returns c =
 pub lay-front-spec : {M : Type 1} → statement M
 lay-front-spec =
     tie.close
-    (tie.spec
-    add-t7
-    cast-t8
-    cast-t9
-    slice-aggregate-put-bytes
-    put-bytes-requires
-    array-share-prefix-name
-    slice-aggregate-put-bytes-2
-    put-bytes-requires-2
-    same-length
-    returns)
+    (tie.spec (search needs) (search needs) (search needs) (search needs) (search needs)
+    array-share-prefix-name slice-aggregate-put-bytes-2 put-bytes-requires-2 (search needs) returns)

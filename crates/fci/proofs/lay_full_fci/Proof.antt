@@ -19,21 +19,6 @@ serial-long s = search needs
 startup-long : (s : tie.Start) → length (s .args .c .loading .startup) ≡ 7
 startup-long s = search needs
 
-lay-front-requires : tie.Need-lay-front-requires
-lay-front-requires c κs = search needs
-
-add-put-bytes : tie.Need-add-put-bytes
-add-put-bytes c = search needs
-
-slice-aggregate-put-bytes : tie.Need-slice-aggregate-put-bytes
-slice-aggregate-put-bytes c = search needs
-
-put-bytes-requires : tie.Need-put-bytes-requires
-put-bytes-requires c κs = search needs
-
-add-put-bytes-2 : tie.Need-add-put-bytes-2
-add-put-bytes-2 c = search needs
-
 slice-aggregate-put-bytes-2 : tie.Need-slice-aggregate-put-bytes-2
 slice-aggregate-put-bytes-2 c =
     let first = c .before .before .before .before in
@@ -45,18 +30,6 @@ put-bytes-requires-2 c κs =
     let first = c .before .before .before .before in
     let head = first .before .before .before .before .before in
     omega (arith, serial-long (head .before .before .before .before .before .before))
-
-add-put-bytes-3 : tie.Need-add-put-bytes-3
-add-put-bytes-3 c = search needs
-
-slice-aggregate-put-bytes-3 : tie.Need-slice-aggregate-put-bytes-3
-slice-aggregate-put-bytes-3 c = search needs
-
-put-bytes-requires-3 : tie.Need-put-bytes-requires-3
-put-bytes-requires-3 c κs = search needs
-
-add-put-bytes-4 : tie.Need-add-put-bytes-4
-add-put-bytes-4 c = search needs
 
 slice-aggregate-put-bytes-4 : tie.Need-slice-aggregate-put-bytes-4
 slice-aggregate-put-bytes-4 c =
@@ -73,12 +46,6 @@ put-bytes-requires-4 c κs =
     let first = second .before .before .before .before .before in
     let head = first .before .before .before .before .before in
     omega (arith, startup-long (head .before .before .before .before .before .before))
-
-add-result : tie.Need-add-result
-add-result c = search needs
-
-same-length : tie.Need-same-length
-same-length c = search needs
 
 returns : tie.Need-returns
 returns c =
@@ -99,20 +66,6 @@ returns c =
 pub lay-full-fci-spec : {M : Type 1} → statement M
 lay-full-fci-spec =
     tie.close
-    (tie.spec
-    lay-front-requires
-    add-put-bytes
-    slice-aggregate-put-bytes
-    put-bytes-requires
-    add-put-bytes-2
-    slice-aggregate-put-bytes-2
-    put-bytes-requires-2
-    add-put-bytes-3
-    slice-aggregate-put-bytes-3
-    put-bytes-requires-3
-    add-put-bytes-4
-    slice-aggregate-put-bytes-4
-    put-bytes-requires-4
-    add-result
-    same-length
-    returns)
+    (tie.spec (search needs) (search needs) (search needs) (search needs) (search needs)
+    slice-aggregate-put-bytes-2 put-bytes-requires-2 (search needs) (search needs) (search needs)
+    (search needs) slice-aggregate-put-bytes-4 put-bytes-requires-4 (search needs) (search needs) returns)

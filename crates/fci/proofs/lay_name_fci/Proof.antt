@@ -12,15 +12,6 @@ use Rattle.fci.proofs.lay_name_fci.Tie as tie
 name-there : (s : tie.Start) → s .args .c .life .namelen ≤ length (s .args .c .life .name)
 name-there s = let e : length (s .args .c .life .name) ≡ 16 = search needs in omega arith
 
-lay-front-requires : tie.Need-lay-front-requires
-lay-front-requires c κs = search needs
-
-add-result : tie.Need-add-result
-add-result c = search needs
-
-same-length : tie.Need-same-length
-same-length c = search needs
-
 returns : tie.Need-returns
 unfolding nameFci
 returns c =
@@ -29,4 +20,4 @@ returns c =
     (sym (name-length (s .args .c) (name-there s)), laid .lay-front .ensures)
 
 pub lay-name-fci-spec : {M : Type 1} → statement M
-lay-name-fci-spec = tie.close (tie.spec lay-front-requires add-result same-length returns)
+lay-name-fci-spec = tie.close (tie.spec (search needs) (search needs) (search needs) returns)

@@ -8,26 +8,11 @@ use borrow.Author.Needs.{needs}
 use Rattle.feed.proofs.last_byte.Statement.{statement}
 use Rattle.feed.proofs.last_byte.Tie as tie
 
-array-write-bytes : tie.Need-array-write-bytes
-array-write-bytes c = search needs
-
-descriptor-of-requires : tie.Need-descriptor-of-requires
-descriptor-of-requires c κs = search needs
-
-admit-requires : tie.Need-admit-requires
-admit-requires c κs = search needs
-
-enum-told : tie.Need-enum-told
-enum-told c = search needs
-
 entered-requires : tie.Need-entered-requires
 entered-requires c κs =
     let s = c .before .before .before .before .before .before in
     let e : length (take (s .args .l .count) (s .args .l .files)) ≡ s .args .l .count = length-take-le _ _ (omega arith) in
     omega (arith, e, admitted-room _ _ _ (sym (c .before .before .admit .ensures) ∙ c .enum-told .given .1))
-
-enum-told-2 : tie.Need-enum-told-2
-enum-told-2 c = search needs
 
 returns : tie.Need-returns
 unfolding tableByte
@@ -48,12 +33,5 @@ returns-2 c =
 pub last-byte-spec : {M : Type 1} → statement M
 last-byte-spec =
     tie.close
-    (tie.spec
-    array-write-bytes
-    descriptor-of-requires
-    admit-requires
-    enum-told
-    entered-requires
-    enum-told-2
-    returns
-    returns-2)
+    (tie.spec (search needs) (search needs) (search needs) (search needs) entered-requires (search needs)
+    returns returns-2)

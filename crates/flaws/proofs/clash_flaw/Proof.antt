@@ -19,15 +19,6 @@ abbrev μ-loop : tie.MeasureT-loop
 loop-holds : tie.Need-loop-holds Inv-loop μ-loop
 loop-holds c = (search needs, refl)
 
-mul-e : tie.Need-mul-e Inv-loop μ-loop
-mul-e c = search needs
-
-array-copy-out-e : tie.Need-array-copy-out-e Inv-loop μ-loop
-array-copy-out-e c = search needs
-
-add-t13 : tie.Need-add-t13 Inv-loop μ-loop
-add-t13 c = search needs
-
 returns : tie.Need-returns Inv-loop μ-loop
 returns c =
     let l = c .before .before .before .before .before .loop in
@@ -36,12 +27,6 @@ returns c =
     let step = flaw-step (a .t2) (a .count) fits (l .i) (a .d) (l .i + 1) (a .later) (omega arith) in
     sym (l .inv .1 ∙ step ∙ search cases)
 
-clash-of-requires : tie.Need-clash-of-requires Inv-loop μ-loop
-clash-of-requires c κs = search needs
-
-add-t15 : tie.Need-add-t15 Inv-loop μ-loop
-add-t15 c = search needs
-
 returns-2 : tie.Need-returns-2 Inv-loop μ-loop
 returns-2 c =
     let l = c .before .before .before .before .before .before .before .loop in
@@ -49,12 +34,6 @@ returns-2 c =
     let fits : a .count ≤ length (a .t2) = search needs in
     let step = flaw-step (a .t2) (a .count) fits (l .i) (a .d) (l .i + 1) (a .later) (omega arith) in
     sym (l .inv .1 ∙ step ∙ simp (← c .before .clash-of .ensures, c .if2 .taken) (search cases))
-
-add-i : tie.Need-add-i Inv-loop μ-loop
-add-i c = search needs
-
-loop-less : tie.Need-loop-less Inv-loop μ-loop
-loop-less c = search needs
 
 loop-again : tie.Need-loop-again Inv-loop μ-loop
 loop-again c =
@@ -74,18 +53,5 @@ returns-3 c =
 pub clash-flaw-spec : {M : Type 1} → statement M
 clash-flaw-spec =
     tie.close
-    (tie.spec
-    Inv-loop
-    μ-loop
-    loop-holds
-    mul-e
-    array-copy-out-e
-    add-t13
-    returns
-    clash-of-requires
-    add-t15
-    returns-2
-    add-i
-    loop-less
-    loop-again
-    returns-3)
+    (tie.spec Inv-loop μ-loop loop-holds (search needs) (search needs) (search needs) returns (search needs)
+    (search needs) returns-2 (search needs) (search needs) loop-again returns-3)

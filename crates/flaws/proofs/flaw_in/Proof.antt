@@ -15,12 +15,6 @@ returns c =
     let fits : a .count ≤ length (a .files) = search needs in
     rw (length-take-le _ _ fits, le-ltb (a .count) 31 (omega arith))
 
-kind-flaw-requires : tie.Need-kind-flaw-requires
-kind-flaw-requires c κs = search needs
-
-access-flaw-requires : tie.Need-access-flaw-requires
-access-flaw-requires c κs = search needs
-
 returns-2 : tie.Need-returns-2
 unfolding flawOf
 returns-2 c =
@@ -30,4 +24,4 @@ returns-2 c =
     rw (c .access-flaw .ensures, c .before .kind-flaw .ensures, length-take-le _ _ fits, few)
 
 pub flaw-in-spec : {M : Type 1} → statement M
-flaw-in-spec = tie.close (tie.spec returns kind-flaw-requires access-flaw-requires returns-2)
+flaw-in-spec = tie.close (tie.spec returns (search needs) (search needs) returns-2)

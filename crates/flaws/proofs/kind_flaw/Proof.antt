@@ -7,12 +7,6 @@ use borrow.Author.Needs.{needs}
 use Rattle.flaws.proofs.kind_flaw.Statement.{statement}
 use Rattle.flaws.proofs.kind_flaw.Tie as tie
 
-df-ok-requires : tie.Need-df-ok-requires
-df-ok-requires c κs = search needs
-
-total-flaw-requires : tie.Need-total-flaw-requires
-total-flaw-requires c κs = search needs
-
 returns : tie.Need-returns
 returns c =
     let a = c .before .before .before .before .args in
@@ -27,9 +21,6 @@ returns-2 c =
     rw (length-take-le _ _ fits, eq-eqb (a .count) 0 (omega arith))
     (simp (← c .before .df-ok .ensures, c .if2 .left))
 
-ef-flaw-requires : tie.Need-ef-flaw-requires
-ef-flaw-requires c κs = search needs
-
 returns-3 : tie.Need-returns-3
 returns-3 c =
     let a = c .before .before .args in
@@ -39,4 +30,4 @@ returns-3 c =
 pub kind-flaw-spec : {M : Type 1} → statement M
 kind-flaw-spec =
     tie.close
-    (tie.spec df-ok-requires total-flaw-requires returns returns-2 ef-flaw-requires returns-3)
+    (tie.spec (search needs) (search needs) returns returns-2 (search needs) returns-3)

@@ -5,15 +5,6 @@ use borrow.Author.Needs.{needs}
 use Rattle.flaws.proofs.total_flaw.Statement.{statement}
 use Rattle.flaws.proofs.total_flaw.Tie as tie
 
-total-of-requires : tie.Need-total-of-requires
-total-of-requires c κs = search needs
-
-size-of-requires : tie.Need-size-of-requires
-size-of-requires c κs = search needs
-
-add-if1 : tie.Need-add-if1
-add-if1 c = search needs
-
 returns : tie.Need-returns
 returns c =
     let before = c .before .before .total-of in
@@ -27,4 +18,4 @@ returns-2 c =
     simp (← before .ensures .0, ← size .ensures .0, lt-leb (before .result + size .result) 4096 (omega arith))
 
 pub total-flaw-spec : {M : Type 1} → statement M
-total-flaw-spec = tie.close (tie.spec total-of-requires size-of-requires add-if1 returns returns-2)
+total-flaw-spec = tie.close (tie.spec (search needs) (search needs) (search needs) returns returns-2)

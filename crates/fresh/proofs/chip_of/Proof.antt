@@ -13,33 +13,6 @@ slice-aggregate-padded4 c = rw length-take (omega arith)
 padded4-requires : tie.Need-padded4-requires
 padded4-requires c κs = rw length-take (omega arith)
 
-sub-padded16 : tie.Need-sub-padded16
-sub-padded16 c = search needs
-
-part-padded16-start : tie.Need-part-padded16-start
-part-padded16-start c = search needs
-
-part-padded16-end : tie.Need-part-padded16-end
-part-padded16-end c = search needs
-
-padded16-requires : tie.Need-padded16-requires
-padded16-requires c κs = search needs
-
-sub-padded16-2 : tie.Need-sub-padded16-2
-sub-padded16-2 c = search needs
-
-part-padded16-start-2 : tie.Need-part-padded16-start-2
-part-padded16-start-2 c = search needs
-
-part-padded16-end-2 : tie.Need-part-padded16-end-2
-part-padded16-end-2 c = search needs
-
-padded16-requires-2 : tie.Need-padded16-requires-2
-padded16-requires-2 c κs = search needs
-
-shared-slice-read-t15 : tie.Need-shared-slice-read-t15
-shared-slice-read-t15 c = search needs
-
 returns : tie.Need-returns
 unfolding chipOf
 returns c =
@@ -56,16 +29,5 @@ returns c =
 pub chip-of-spec : {M : Type 1} → statement M
 chip-of-spec =
     tie.close
-    (tie.spec
-    slice-aggregate-padded4
-    padded4-requires
-    sub-padded16
-    part-padded16-start
-    part-padded16-end
-    padded16-requires
-    sub-padded16-2
-    part-padded16-start-2
-    part-padded16-end-2
-    padded16-requires-2
-    shared-slice-read-t15
-    returns)
+    (tie.spec slice-aggregate-padded4 padded4-requires (search needs) (search needs) (search needs)
+    (search needs) (search needs) (search needs) (search needs) (search needs) (search needs) returns)

@@ -5,28 +5,13 @@ use Rattle.model.specs.Session.{freshOf}
 use Rattle.fresh.proofs.fresh.Statement.{statement}
 use Rattle.fresh.proofs.fresh.Tie as tie
 
-is-chip-requires : tie.Need-is-chip-requires
-is-chip-requires c κs = search needs
-
 chip-of-requires : tie.Need-chip-of-requires
 chip-of-requires c κs = form-size (now (c .before .before .before .args .chip)) (rw (← c .before .is-chip .ensures) (c .if1 .taken))
-
-fresh-card-requires : tie.Need-fresh-card-requires
-fresh-card-requires c κs = search needs
 
 returns : tie.Need-returns
 unfolding freshOf
 returns c =
     simp (← c .before .before .before .is-chip .ensures, c .before .before .if1 .taken, c .fresh-card .ensures, c .before .chip-of .ensures)
-
-slice-aggregate-chip-of : tie.Need-slice-aggregate-chip-of
-slice-aggregate-chip-of c = search needs
-
-chip-of-requires-2 : tie.Need-chip-of-requires-2
-chip-of-requires-2 c κs = search needs
-
-fresh-card-requires-2 : tie.Need-fresh-card-requires-2
-fresh-card-requires-2 c κs = search needs
 
 returns-2 : tie.Need-returns-2
 unfolding freshOf
@@ -38,12 +23,5 @@ returns-2 c =
 pub fresh-spec : {M : Type 1} → statement M
 fresh-spec =
     tie.close
-    (tie.spec
-    is-chip-requires
-    chip-of-requires
-    fresh-card-requires
-    returns
-    slice-aggregate-chip-of
-    chip-of-requires-2
-    fresh-card-requires-2
-    returns-2)
+    (tie.spec (search needs) chip-of-requires (search needs) returns (search needs) (search needs)
+    (search needs) returns-2)

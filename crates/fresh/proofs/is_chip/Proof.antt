@@ -4,9 +4,6 @@ use Rattle.model.specs.Stored.{chipForm}
 use Rattle.fresh.proofs.is_chip.Statement.{statement}
 use Rattle.fresh.proofs.is_chip.Tie as tie
 
-zero-from-requires : tie.Need-zero-from-requires
-zero-from-requires c κs = search needs
-
 returns : tie.Need-returns
 unfolding chipForm
 returns c = simp (c .zero-from .ensures, eq-eqb _ _ (c .before .if1 .taken))
@@ -16,4 +13,4 @@ unfolding chipForm
 returns-2 c = simp (ne-eqb _ _ (c .if1 .left))
 
 pub is-chip-spec : {M : Type 1} → statement M
-is-chip-spec = tie.close (tie.spec zero-from-requires returns returns-2)
+is-chip-spec = tie.close (tie.spec (search needs) returns returns-2)

@@ -4,14 +4,8 @@ use borrow.Author.Needs.{needs}
 use Rattle.fresh.proofs.padded4.Statement.{statement}
 use Rattle.fresh.proofs.padded4.Tie as tie
 
-slice-aggregate-lay : tie.Need-slice-aggregate-lay
-slice-aggregate-lay c = search needs
-
-lay-requires : tie.Need-lay-requires
-lay-requires c κs = search needs
-
 returns : tie.Need-returns
 returns c = c .before .lay .ensures ∙ over-padded 4 _ (search needs)
 
 pub padded4-spec : {M : Type 1} → statement M
-padded4-spec = tie.close (tie.spec slice-aggregate-lay lay-requires returns)
+padded4-spec = tie.close (tie.spec (search needs) (search needs) returns)

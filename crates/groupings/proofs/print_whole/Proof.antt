@@ -15,24 +15,6 @@ Inv-loop good₀ order out₀ start at₀ filled₀ good out at filled =
 abbrev μ-loop : tie.MeasureT-loop
 μ-loop good₀ order out₀ start at₀ filled₀ good out at filled = length order - at
 
-loop-holds : tie.Need-loop-holds Inv-loop μ-loop
-loop-holds c = search needs
-
-found-at-requires : tie.Need-found-at-requires Inv-loop μ-loop
-found-at-requires c κs = search needs
-
-same-length : tie.Need-same-length Inv-loop μ-loop
-same-length c = search needs
-
-returns : tie.Need-returns Inv-loop μ-loop
-returns c = search needs
-
-value-of-requires : tie.Need-value-of-requires Inv-loop μ-loop
-value-of-requires c κs = search needs
-
-put-grouping-requires : tie.Need-put-grouping-requires Inv-loop μ-loop
-put-grouping-requires c κs = search needs
-
 loop-less : tie.Need-loop-less Inv-loop μ-loop
 loop-less c =
     let loop = c .before .before .before .before .before .before .before .before .before .before .loop in
@@ -48,25 +30,8 @@ loop-again c =
     let h = found-ahead (now (c .before .before .before .before .before .before .before .before .before .before .before .before .before .args .order)) (loop .at) (rw e at (c .before .before .before .before .before .before .if1 .left)) in
     (rw e (h .1), omega arith, g .kept .1 .0 ∙ loop .inv .2)
 
-same-length-2 : tie.Need-same-length-2 Inv-loop μ-loop
-same-length-2 c = search needs
-
-returns-2 : tie.Need-returns-2 Inv-loop μ-loop
-returns-2 c = search needs
-
 pub print-whole-spec : {M : Type 1} → statement M
 print-whole-spec =
     tie.close
-    (tie.spec
-    Inv-loop
-    μ-loop
-    loop-holds
-    found-at-requires
-    same-length
-    returns
-    value-of-requires
-    put-grouping-requires
-    loop-less
-    loop-again
-    same-length-2
-    returns-2)
+    (tie.spec Inv-loop μ-loop (search needs) (search needs) (search needs) (search needs) (search needs)
+    (search needs) loop-less loop-again (search needs) (search needs))

@@ -5,26 +5,11 @@ use borrow.Author.Needs.{needs}
 use Rattle.groupings.proofs.put_line.Statement.{statement}
 use Rattle.groupings.proofs.put_line.Tie as tie
 
-put-hex4-requires : tie.Need-put-hex4-requires
-put-hex4-requires c κs = search needs
-
-add-out : tie.Need-add-out
-add-out c = search needs
-
-slice-write-out : tie.Need-slice-write-out
-slice-write-out c = search needs
-
-add-put-value : tie.Need-add-put-value
-add-put-value c = search needs
-
 put-value-requires : tie.Need-put-value-requires
 put-value-requires c κs = simp length-set (omega arith)
 
 slice-write-out-2 : tie.Need-slice-write-out-2
 slice-write-out-2 c = let e = simp length-set at (c .before .before .put-value .kept .0) in omega arith
-
-add-result : tie.Need-add-result
-add-result c = search needs
 
 same-length : tie.Need-same-length
 same-length c =
@@ -32,19 +17,8 @@ same-length c =
     let put-hex4 = c .before .before .before .before .before .before .put-hex4 in
     simp length-set (simp length-set at (put-value .kept .0) ∙ put-hex4 .kept .0)
 
-returns : tie.Need-returns
-returns c = search needs
-
 pub put-line-spec : {M : Type 1} → statement M
 put-line-spec =
     tie.close
-    (tie.spec
-    put-hex4-requires
-    add-out
-    slice-write-out
-    add-put-value
-    put-value-requires
-    slice-write-out-2
-    add-result
-    same-length
-    returns)
+    (tie.spec (search needs) (search needs) (search needs) (search needs) put-value-requires
+    slice-write-out-2 (search needs) same-length (search needs))

@@ -11,25 +11,10 @@ returns c =
     let a = c .before .before .args in
     sym (torn-short (now (a .s)) (a .at) (omega arith))
 
-sub-left : tie.Need-sub-left
-sub-left c = search needs
-
 returns-2 : tie.Need-returns-2
 returns-2 c =
     let a = c .before .before .before .args in
     sym (torn-short (now (a .s)) (a .at) (omega arith))
-
-word-at-requires : tie.Need-word-at-requires
-word-at-requires c κs = search needs
-
-add-wide : tie.Need-add-wide
-add-wide c = search needs
-
-shared-slice-read-wide : tie.Need-shared-slice-read-wide
-shared-slice-read-wide c = search needs
-
-wide-requires : tie.Need-wide-requires
-wide-requires c κs = search needs
 
 returns-3 : tie.Need-returns-3
 returns-3 c =
@@ -43,12 +28,6 @@ returns-4 c =
     let w = c .before .before .wide .ensures .0 in
     sym (torn-long (now (a .s)) (a .at) (omega arith) (rw w at (c .before .if3 .left)) (omega arith))
 
-add-word-at : tie.Need-add-word-at
-add-word-at c = search needs
-
-word-at-requires-2 : tie.Need-word-at-requires-2
-word-at-requires-2 c κs = search needs
-
 returns-5 : tie.Need-returns-5
 returns-5 c =
     let if3 = c .before .before .before .if3 in
@@ -56,9 +35,6 @@ returns-5 c =
     let a = c .before .before .before .before .before .before .before .before .before .before .args in
     let w = wide .ensures .0 in
     sym (long-ffff (now (a .s)) (a .at) (omega arith) (rw w at (if3 .left)) (rw (c .before .word-at2 .ensures) at (c .if5 .taken)))
-
-cast-t7 : tie.Need-cast-t7
-cast-t7 c = search needs
 
 returns-6 : tie.Need-returns-6
 returns-6 c =
@@ -73,18 +49,5 @@ returns-6 c =
 pub header-at-spec : {M : Type 1} → statement M
 header-at-spec =
     tie.close
-    (tie.spec
-    returns
-    sub-left
-    returns-2
-    word-at-requires
-    add-wide
-    shared-slice-read-wide
-    wide-requires
-    returns-3
-    returns-4
-    add-word-at
-    word-at-requires-2
-    returns-5
-    cast-t7
-    returns-6)
+    (tie.spec returns (search needs) returns-2 (search needs) (search needs) (search needs) (search needs)
+    returns-3 returns-4 (search needs) (search needs) returns-5 (search needs) returns-6)

@@ -3,17 +3,11 @@ use Rattle.lists.specs.Choice.{cases}
 use Rattle.hex.proofs.hex_digit.Statement.{statement}
 use Rattle.hex.proofs.hex_digit.Tie as tie
 
-add-result : tie.Need-add-result
-add-result c = search needs
-
 returns : tie.Need-returns
 returns c = search cases
-
-add-result-2 : tie.Need-add-result-2
-add-result-2 c = search needs
 
 returns-2 : tie.Need-returns-2
 returns-2 c = search cases
 
 pub hex-digit-spec : {M : Type 1} → statement M
-hex-digit-spec = tie.close (tie.spec add-result returns add-result-2 returns-2)
+hex-digit-spec = tie.close (tie.spec (search needs) returns (search needs) returns-2)

@@ -21,25 +21,10 @@ loop-holds : tie.Need-loop-holds Inv-loop μ-loop
 unfolding hexOf
 loop-holds c = (search needs, sym (over-none _ _))
 
-mul-put-hex2 : tie.Need-mul-put-hex2 Inv-loop μ-loop
-mul-put-hex2 c = search needs
-
-add-put-hex2 : tie.Need-add-put-hex2 Inv-loop μ-loop
-add-put-hex2 c = search needs
-
-shared-slice-read-put-hex2 : tie.Need-shared-slice-read-put-hex2 Inv-loop μ-loop
-shared-slice-read-put-hex2 c = search needs
-
 put-hex2-requires : tie.Need-put-hex2-requires Inv-loop μ-loop
 put-hex2-requires c κs =
     let l = c .before .before .before .loop in
     rw (l .inv .1, length-over) (omega arith)
-
-add-i : tie.Need-add-i Inv-loop μ-loop
-add-i c = search needs
-
-loop-less : tie.Need-loop-less Inv-loop μ-loop
-loop-less c = search needs
 
 loop-again : tie.Need-loop-again Inv-loop μ-loop
 loop-again c =
@@ -47,12 +32,6 @@ loop-again c =
     let a = c .before .before .before .before .before .before .before .before .before .args in
     let h : l .i < length (now (a .bytes)) = omega arith in
     (omega arith, c .before .before .put-hex2 .ensures ∙ rw (l .inv .1) (hex-more (now (a .out)) (now (a .bytes)) (a .at) (l .i) h))
-
-mul-result : tie.Need-mul-result Inv-loop μ-loop
-mul-result c = search needs
-
-add-result : tie.Need-add-result Inv-loop μ-loop
-add-result c = search needs
 
 same-length : tie.Need-same-length Inv-loop μ-loop
 same-length c = rw (c .before .loop .inv .1, length-over)
@@ -67,18 +46,5 @@ returns c =
 pub put-hex-spec : {M : Type 1} → statement M
 put-hex-spec =
     tie.close
-    (tie.spec
-    Inv-loop
-    μ-loop
-    loop-holds
-    mul-put-hex2
-    add-put-hex2
-    shared-slice-read-put-hex2
-    put-hex2-requires
-    add-i
-    loop-less
-    loop-again
-    mul-result
-    add-result
-    same-length
-    returns)
+    (tie.spec Inv-loop μ-loop loop-holds (search needs) (search needs) (search needs) put-hex2-requires
+    (search needs) (search needs) loop-again (search needs) (search needs) same-length returns)

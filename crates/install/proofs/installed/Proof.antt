@@ -5,19 +5,10 @@ use borrow.Author.Tests.{eq-eqb, ne-eqb}
 use Rattle.install.proofs.installed.Statement.{statement}
 use Rattle.install.proofs.installed.Tie as tie
 
-is-install-form-requires : tie.Need-is-install-form-requires
-is-install-form-requires c κs = search needs
-
-clear-requires : tie.Need-clear-requires
-clear-requires c κs = search needs
-
 named-requires : tie.Need-named-requires
 named-requires c κs =
     let then = c .before .before .before .before .before .before in
     sym (then .before .is-install-form .ensures) ∙ then .if1 .taken
-
-same-length : tie.Need-same-length
-same-length c = search needs
 
 returns : tie.Need-returns
 unfolding installing
@@ -41,11 +32,4 @@ returns-3 c = simp (← c .before .is-install-form .ensures, c .if1 .left)
 pub installed-spec : {M : Type 1} → statement M
 installed-spec =
     tie.close
-    (tie.spec
-    is-install-form-requires
-    clear-requires
-    named-requires
-    same-length
-    returns
-    returns-2
-    returns-3)
+    (tie.spec (search needs) (search needs) named-requires (search needs) returns returns-2 returns-3)

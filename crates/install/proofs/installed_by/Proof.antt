@@ -8,18 +8,9 @@ use Rattle.model.specs.Events.{install}
 use Rattle.install.proofs.installed_by.Statement.{statement}
 use Rattle.install.proofs.installed_by.Tie as tie
 
-made-selectable-requires : tie.Need-made-selectable-requires
-made-selectable-requires c κs = search needs
-
 returns : tie.Need-returns
 unfolding install
 returns c = rw (eq-eqb _ 0x08 (c .before .if1 .taken)) (c .made-selectable .ensures _)
-
-installed-requires : tie.Need-installed-requires
-installed-requires c κs = search needs
-
-same-length : tie.Need-same-length
-same-length c = search needs
 
 returns-2 : tie.Need-returns-2
 unfolding install
@@ -39,4 +30,4 @@ returns-3 c =
 pub installed-by-spec : {M : Type 1} → statement M
 installed-by-spec =
     tie.close
-    (tie.spec made-selectable-requires returns installed-requires same-length returns-2 returns-3)
+    (tie.spec (search needs) returns (search needs) (search needs) returns-2 returns-3)

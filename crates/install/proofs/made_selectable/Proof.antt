@@ -16,32 +16,17 @@ name-asked n =
     let p = n .before .before .places-in in
     sym (n .is-named .ensures ∙ rw (named-is _ (p .result) (p .ensures .0)))
 
-is-selectable-form-requires : tie.Need-is-selectable-form-requires
-is-selectable-form-requires c κs = search needs
-
 returns : tie.Need-returns
 unfolding makingSelectable
 returns c =
     let then = c .before .before in
     λ a. simp (← then .before .is-selectable-form .ensures, then .if1 .taken, eq-eqb _ _ (c .if2 .taken))
 
-places-in-requires : tie.Need-places-in-requires
-places-in-requires c κs = search needs
-
-sub-is-named : tie.Need-sub-is-named
-sub-is-named c = search needs
-
-part-is-named-start : tie.Need-part-is-named-start
-part-is-named-start c = search needs
-
 part-is-named-end : tie.Need-part-is-named-end
 part-is-named-end c =
     let then = c .before .before .before in
     let s = then .before .before .before .before in
     selectable-ends (now (s .args .d)) (c .places-in .result) (c .places-in .ensures .0) (sym (then .before .is-selectable-form .ensures) ∙ then .if1 .taken)
-
-is-named-requires : tie.Need-is-named-requires
-is-named-requires c κs = search needs
 
 returns-2 : tie.Need-returns-2
 unfolding makingSelectable
@@ -73,15 +58,5 @@ returns-5 c = λ a. simp (← c .before .is-selectable-form .ensures, c .if1 .le
 pub made-selectable-spec : {M : Type 1} → statement M
 made-selectable-spec =
     tie.close
-    (tie.spec
-    is-selectable-form-requires
-    returns
-    places-in-requires
-    sub-is-named
-    part-is-named-start
-    part-is-named-end
-    is-named-requires
-    returns-2
-    returns-3
-    returns-4
-    returns-5)
+    (tie.spec (search needs) returns (search needs) (search needs) (search needs) part-is-named-end
+    (search needs) returns-2 returns-3 returns-4 returns-5)

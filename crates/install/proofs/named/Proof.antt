@@ -5,15 +5,6 @@ use Rattle.names.proofs.Install.{install-ends, install-fits, life-named}
 use Rattle.install.proofs.named.Statement.{statement}
 use Rattle.install.proofs.named.Tie as tie
 
-places-in-requires : tie.Need-places-in-requires
-places-in-requires c κs = search needs
-
-sub-padded16 : tie.Need-sub-padded16
-sub-padded16 c = search needs
-
-part-padded16-start : tie.Need-part-padded16-start
-part-padded16-start c = search needs
-
 part-padded16-end : tie.Need-part-padded16-end
 part-padded16-end c =
     let p = c .places-in in
@@ -41,11 +32,5 @@ returns-2 c =
 pub named-spec : {M : Type 1} → statement M
 named-spec =
     tie.close
-    (tie.spec
-    places-in-requires
-    sub-padded16
-    part-padded16-start
-    part-padded16-end
-    padded16-requires
-    returns
+    (tie.spec (search needs) (search needs) (search needs) part-padded16-end padded16-requires returns
     returns-2)

@@ -8,16 +8,10 @@ use Rattle.job_register.proofs.Jobs.{room-within, no-area, refused, few
 use Rattle.job_register.proofs.enter_job.Statement.{statement}
 use Rattle.job_register.proofs.enter_job.Tie as tie
 
-refused-by-requires : tie.Need-refused-by-requires
-refused-by-requires c κs = search needs
-
 returns : tie.Need-returns
 returns c =
     let s = c .before .before .before .before .before .before .before .args in
     (rw (c .refused-by .ensures) (no-area (now (s .chip)) (now (s .order)) (now (s .room)) (now (s .area)) (now (s .out)) (c .before .if1 .taken)), rw (c .refused-by .ensures) (omega arith))
-
-room-for-requires : tie.Need-room-for-requires
-room-for-requires c κs = search needs
 
 slice-relend-prefix-lay-session : tie.Need-slice-relend-prefix-lay-session
 slice-relend-prefix-lay-session c =
@@ -28,15 +22,6 @@ slice-aggregate-lay-session : tie.Need-slice-aggregate-lay-session
 slice-aggregate-lay-session c =
     let s = c .before .before .before .before .before .before .before .before .args in
     sym (length-take-le _ (now (s .room)) (rw (c .before .room-for .ensures) (room-within (length (now (s .room))) (length (now (s .out))))))
-
-lay-session-requires : tie.Need-lay-session-requires
-lay-session-requires c κs = search needs
-
-refused-by-requires-2 : tie.Need-refused-by-requires-2
-refused-by-requires-2 c κs = search needs
-
-same-length : tie.Need-same-length
-same-length c = search needs
 
 returns-2 : tie.Need-returns-2
 returns-2 c =
@@ -82,15 +67,6 @@ play-requires c κs =
     let n = c .before .before .before .before .before .before .before .before .before .before .room-for in
     playable (now (s .chip)) (now (s .order)) (now (s .room)) (now (s .area)) (now (s .out)) (c .before .before .before .before .before .before .before .before .before .before .before .if1 .left) (n .result) (n .ensures) (laid .result) (laid .last .1 .1 .0) (laid .ensures .0) (c .before .before .before .before .if2 .left)
 
-same-length-2 : tie.Need-same-length-2
-same-length-2 c = search needs
-
-same-length-3 : tie.Need-same-length-3
-same-length-3 c = search needs
-
-same-length-4 : tie.Need-same-length-4
-same-length-4 c = search needs
-
 returns-3 : tie.Need-returns-3
 returns-3 c =
     let s = c .before .before .before .before .before .before .before .before .before .before .before .before .before .before .before .before .before .before .before .before .before .before .args in
@@ -103,22 +79,7 @@ returns-3 c =
 pub enter-job-spec : {M : Type 1} → statement M
 enter-job-spec =
     tie.close
-    (tie.spec
-    refused-by-requires
-    returns
-    room-for-requires
-    slice-relend-prefix-lay-session
-    slice-aggregate-lay-session
-    lay-session-requires
-    refused-by-requires-2
-    same-length
-    returns-2
-    add-end
-    mul-end
-    slice-reshare-prefix-play
-    slice-aggregate-play
-    play-requires
-    same-length-2
-    same-length-3
-    same-length-4
-    returns-3)
+    (tie.spec (search needs) returns (search needs) slice-relend-prefix-lay-session
+    slice-aggregate-lay-session (search needs) (search needs) (search needs) returns-2 add-end mul-end
+    slice-reshare-prefix-play slice-aggregate-play play-requires (search needs) (search needs)
+    (search needs) returns-3)

@@ -13,12 +13,6 @@ use Rattle.job_register.proofs.Plays.{ends, answered}
 use Rattle.job_register.proofs.play.Statement.{statement}
 use Rattle.job_register.proofs.play.Tie as tie
 
-fresh-requires : tie.Need-fresh-requires
-fresh-requires c κs = search needs
-
-clear-requires : tie.Need-clear-requires
-clear-requires c κs = search needs
-
 enter-all-requires : tie.Need-enter-all-requires
 enter-all-requires c κs =
     let s = c .before .before .before .before .before .before .before .before .before .before .before .before in
@@ -31,12 +25,6 @@ mul-put-end c = let s = c .before .before .before .before .before .before .befor
 
 put-end-requires : tie.Need-put-end-requires
 put-end-requires c κs = let s = c .before .before .before .before .before .before .before .before .before .before .before .before .before .before .before .before .before .before in omega (arith, s .pre .room, c .before .before .before .before .before .enter-all .kept .1 .1 .1 .1 .0)
-
-same-length : tie.Need-same-length
-same-length c = search needs
-
-same-length-2 : tie.Need-same-length-2
-same-length-2 c = search needs
 
 returns : tie.Need-returns
 unfolding playedOf
@@ -53,12 +41,5 @@ returns c =
 pub play-spec : {M : Type 1} → statement M
 play-spec =
     tie.close
-    (tie.spec
-    fresh-requires
-    clear-requires
-    enter-all-requires
-    mul-put-end
-    put-end-requires
-    same-length
-    same-length-2
-    returns)
+    (tie.spec (search needs) (search needs) enter-all-requires mul-put-end put-end-requires (search needs)
+    (search needs) returns)

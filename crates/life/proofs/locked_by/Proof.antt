@@ -12,12 +12,9 @@ returns-2 : tie.Need-returns-2
 unfolding lock
 returns-2 c = λ a. search cases
 
-add-next : tie.Need-add-next
-add-next c = search needs
-
 returns-3 : tie.Need-returns-3
 unfolding lock
 returns-3 c = λ a. search cases
 
 pub locked-by-spec : {M : Type 1} → statement M
-locked-by-spec = tie.close (tie.spec returns returns-2 add-next returns-3)
+locked-by-spec = tie.close (tie.spec returns returns-2 (search needs) returns-3)

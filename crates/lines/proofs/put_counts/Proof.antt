@@ -7,35 +7,14 @@ use Rattle.hex.proofs.Runs.{run-fields}
 use Rattle.lines.proofs.put_counts.Statement.{statement}
 use Rattle.lines.proofs.put_counts.Tie as tie
 
-put-five-requires : tie.Need-put-five-requires
-put-five-requires c κs = search needs
-
-add-out : tie.Need-add-out
-add-out c = search needs
-
-slice-write-out : tie.Need-slice-write-out
-slice-write-out c = search needs
-
-add-put-two : tie.Need-add-put-two
-add-put-two c = search needs
-
 put-two-requires : tie.Need-put-two-requires
 put-two-requires c κs = simp length-set (omega arith)
-
-add-out-2 : tie.Need-add-out-2
-add-out-2 c = search needs
 
 slice-write-out-2 : tie.Need-slice-write-out-2
 slice-write-out-2 c = rw (c .before .before .put-two .ensures, length-over, length-set) (omega arith)
 
-add-put-two-2 : tie.Need-add-put-two-2
-add-put-two-2 c = search needs
-
 put-two-requires-2 : tie.Need-put-two-requires-2
 put-two-requires-2 c κs = rw (length-set, c .before .before .before .put-two .ensures, length-over, length-set) (omega arith)
-
-add-out-3 : tie.Need-add-out-3
-add-out-3 c = search needs
 
 slice-write-out-3 : tie.Need-slice-write-out-3
 slice-write-out-3 c =
@@ -55,17 +34,5 @@ same-length c = ap length (returns c) ∙ length-over _ _ _
 pub put-counts-spec : {M : Type 1} → statement M
 put-counts-spec =
     tie.close
-    (tie.spec
-    put-five-requires
-    add-out
-    slice-write-out
-    add-put-two
-    put-two-requires
-    add-out-2
-    slice-write-out-2
-    add-put-two-2
-    put-two-requires-2
-    add-out-3
-    slice-write-out-3
-    same-length
-    returns)
+    (tie.spec (search needs) (search needs) (search needs) (search needs) put-two-requires (search needs)
+    slice-write-out-2 (search needs) put-two-requires-2 (search needs) slice-write-out-3 same-length returns)

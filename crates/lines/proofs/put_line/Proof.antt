@@ -9,33 +9,6 @@ use Rattle.lists.specs.Over.{length-over}
 use Rattle.lines.proofs.put_line.Statement.{statement}
 use Rattle.lines.proofs.put_line.Tie as tie
 
-capped-requires : tie.Need-capped-requires
-capped-requires c κs = search needs
-
-put-counts-requires : tie.Need-put-counts-requires
-put-counts-requires c κs = search needs
-
-add-put-states : tie.Need-add-put-states
-add-put-states c = search needs
-
-put-states-requires : tie.Need-put-states-requires
-put-states-requires c κs = search needs
-
-add-put-two : tie.Need-add-put-two
-add-put-two c = search needs
-
-count-requires : tie.Need-count-requires
-count-requires c κs = search needs
-
-put-two-requires : tie.Need-put-two-requires
-put-two-requires c κs = search needs
-
-add-out : tie.Need-add-out
-add-out c = search needs
-
-slice-write-out : tie.Need-slice-write-out
-slice-write-out c = search needs
-
 returns : tie.Need-returns
 unfolding lineWith
 returns c =
@@ -53,15 +26,5 @@ same-length c = ap length (returns c) ∙ length-over _ _ _
 pub put-line-spec : {M : Type 1} → statement M
 put-line-spec =
     tie.close
-    (tie.spec
-    capped-requires
-    put-counts-requires
-    add-put-states
-    put-states-requires
-    add-put-two
-    count-requires
-    put-two-requires
-    add-out
-    slice-write-out
-    same-length
-    returns)
+    (tie.spec (search needs) (search needs) (search needs) (search needs) (search needs) (search needs)
+    (search needs) (search needs) (search needs) same-length returns)

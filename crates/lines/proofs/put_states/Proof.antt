@@ -7,35 +7,14 @@ use Rattle.hex.proofs.Runs.{run-fields}
 use Rattle.lines.proofs.put_states.Statement.{statement}
 use Rattle.lines.proofs.put_states.Tie as tie
 
-put-hex4-requires : tie.Need-put-hex4-requires
-put-hex4-requires c κs = search needs
-
-add-out : tie.Need-add-out
-add-out c = search needs
-
-slice-write-out : tie.Need-slice-write-out
-slice-write-out c = search needs
-
-add-put-hex2 : tie.Need-add-put-hex2
-add-put-hex2 c = search needs
-
 put-hex2-requires : tie.Need-put-hex2-requires
 put-hex2-requires c κs = simp length-set (omega arith)
-
-add-out-2 : tie.Need-add-out-2
-add-out-2 c = search needs
 
 slice-write-out-2 : tie.Need-slice-write-out-2
 slice-write-out-2 c = rw (c .before .before .put-hex2 .ensures, length-over, length-set) (omega arith)
 
-add-put-hex2-2 : tie.Need-add-put-hex2-2
-add-put-hex2-2 c = search needs
-
 put-hex2-requires-2 : tie.Need-put-hex2-requires-2
 put-hex2-requires-2 c κs = rw (length-set, c .before .before .before .put-hex2 .ensures, length-over, length-set) (omega arith)
-
-add-out-3 : tie.Need-add-out-3
-add-out-3 c = search needs
 
 slice-write-out-3 : tie.Need-slice-write-out-3
 slice-write-out-3 c =
@@ -55,17 +34,6 @@ same-length c = ap length (returns c) ∙ length-over _ _ _
 pub put-states-spec : {M : Type 1} → statement M
 put-states-spec =
     tie.close
-    (tie.spec
-    put-hex4-requires
-    add-out
-    slice-write-out
-    add-put-hex2
-    put-hex2-requires
-    add-out-2
-    slice-write-out-2
-    add-put-hex2-2
-    put-hex2-requires-2
-    add-out-3
-    slice-write-out-3
-    same-length
+    (tie.spec (search needs) (search needs) (search needs) (search needs) put-hex2-requires (search needs)
+    slice-write-out-2 (search needs) put-hex2-requires-2 (search needs) slice-write-out-3 same-length
     returns)

@@ -1,59 +1,22 @@
-use Prim.Native.Nat.{ℕ, suc, _+_, _*_, _-_, _≤_, _<_, _/_, _%_}
-use mathlib.Core.Path.{_≡_, refl, ap, sym, _∙_}
-use mathlib.Core.List.{List, [], _∷_, _++_}
-use native.Mathlib.Omega.{arith}
-use native.Mathlib.Numerals.{add-one}
-use lib.ListN.{length, take, drop, set, getD, length-set, length-take, length-drop, length-append}
-use denote.Ref.{now}
+use Prim.Native.Nat.{_-_}
+use mathlib.Core.Path.{sym, _∙_}
 use borrow.Author.Needs.{needs}
 use Rattle.load.proofs.settled.Statement.{statement}
 use Rattle.load.proofs.settled.Tie as tie
-use Rattle.load.proofs.settled.Reads as reads
-use Rattle.load.proofs.settled.Lts as lts
-use Rattle.load.proofs.end_word.Reads as end-word-reads
-use Rattle.load.proofs.erred.Reads as erred-reads
-use Rattle.load.proofs.passed.Reads as passed-reads
 use Rattle.model.specs.Loads.{runningIn}
 use Rattle.steps.specs.Steps.{on}
 use Rattle.load.proofs.Closing.{not-asked, passes-end, fails-end, settles-passed, settles-asked, settles-erred}
-
-enum-told : tie.Need-enum-told
-enum-told c = search needs
-
-passed-requires : tie.Need-passed-requires
-passed-requires c κs = search needs
 
 returns : tie.Need-returns
 returns c =
     let s = c .before .before .before .before .args in
     λ d l a. rw (c .passed .ensures, c .before .before .enum-told .given .1, not-asked (s .p1) (on (s .p) l a) (c .before .if1 .taken)) (settles-passed d (s .p) l a (s .p))
 
-end-word-requires : tie.Need-end-word-requires
-end-word-requires c κs = search needs
-
-passed-requires-2 : tie.Need-passed-requires-2
-passed-requires-2 c κs = search needs
-
 returns-2 : tie.Need-returns-2
 returns-2 c =
     let s = c .before .before .before .before .before .before .args in
     let w = sym (c .before .before .end-word .ensures) ∙ c .before .if2 .taken in
     λ d l a. rw (c .passed2 .ensures, c .before .before .before .before .enum-told .given .1, passes-end (s .p1) (on (s .p) l a) (c .before .before .before .if1 .left) w) (settles-passed d (s .p) l a (runningIn 0xA5 (s .p)))
-
-erred-requires : tie.Need-erred-requires
-erred-requires c κs = search needs
-
-enum-told-2 : tie.Need-enum-told-2
-enum-told-2 c = search needs
-
-passed-requires-3 : tie.Need-passed-requires-3
-passed-requires-3 c κs = search needs
-
-enum-known-end : tie.Need-enum-known-end
-enum-known-end c = search needs
-
-erred-requires-2 : tie.Need-erred-requires-2
-erred-requires-2 c κs = search needs
 
 returns-3 : tie.Need-returns-3
 returns-3 c =
@@ -74,18 +37,5 @@ returns-5 c =
 pub settled-spec : {M : Type 1} → statement M
 settled-spec =
     tie.close
-    (tie.spec
-    enum-told
-    passed-requires
-    returns
-    end-word-requires
-    passed-requires-2
-    returns-2
-    erred-requires
-    enum-told-2
-    passed-requires-3
-    enum-known-end
-    erred-requires-2
-    returns-3
-    returns-4
-    returns-5)
+    (tie.spec (search needs) (search needs) returns (search needs) (search needs) returns-2 (search needs)
+    (search needs) (search needs) (search needs) (search needs) returns-3 returns-4 returns-5)

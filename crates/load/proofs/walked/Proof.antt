@@ -1,39 +1,22 @@
-use Prim.Native.Nat.{ℕ, suc, _+_, _*_, _-_, _≤_, _<_, _/_, _%_}
-use mathlib.Core.Path.{_≡_, refl, ap, sym, _∙_}
-use mathlib.Core.List.{List, [], _∷_, _++_}
+use Prim.Native.Nat.{_-_, _≤_}
+use mathlib.Core.Path.{_≡_, refl, sym, _∙_}
 use native.Mathlib.Omega.{arith}
-use native.Mathlib.Numerals.{add-one}
-use lib.ListN.{length, take, drop, set, getD, length-set, length-take, length-drop, length-append}
+use lib.ListN.{length, drop, length-take, length-drop}
 use denote.Ref.{now}
 use borrow.Author.Needs.{needs}
 use Rattle.load.proofs.walked.Statement.{statement}
 use Rattle.load.proofs.walked.Tie as tie
-use Rattle.load.proofs.walked.Reads as reads
-use Rattle.load.proofs.walked.Lts as lts
-use Rattle.content.proofs.kept_as.Reads as kept-as-reads
-use Rattle.feed.proofs.table_fed.Reads as table-fed-reads
-use Rattle.places.proofs.scan_from.Reads as scan-from-reads
-use Rattle.places.proofs.spot_in.Reads as spot-in-reads
-use Rattle.sizes.proofs.size_of.Reads as size-of-reads
-use Rattle.slices.proofs.lay.Reads as lay-reads
-use Rattle.walk.proofs.step_at.Reads as step-at-reads
-use Rattle.walk.proofs.wanted.Reads as wanted-reads
 use Rattle.places.specs.Scans.{Scanning}
 use Rattle.places.proofs.Scans.{scan-begins, scan-more, scan-found, scan-ends}
 use Rattle.steps.specs.Steps.{stateOf}
 use Rattle.walk.specs.Paces.{onward}
-use Rattle.load.proofs.Owner.{Going, rests-so, spot-within, spot-fits}
-use mathlib.Core.Path.{subst}
-use Rattle.model.specs.declared.Verdict.{Verdict}
+use Rattle.load.proofs.Owner.{Going, rests-so, spot-within, spot-fits, reaches, Turn, turned}
 use Rattle.model.specs.Loads.{fileList}
 use Rattle.model.specs.Rules.{tagSpot}
-use Rattle.feed.specs.Bytes.{Reaches}
 use Rattle.walk.specs.Turns.{wantedTag}
 use lib.Seq.{length-take-le}
 use Rattle.lists.specs.Bytes.{part}
 use Rattle.lists.specs.Over.{over-mid}
-use Rattle.load.proofs.Owner.{reaches}
-use Rattle.load.proofs.Owner.{Turn, turned}
 
 abbrev Inv-loop2 : tie.InvT-loop2
 Inv-loop2 area capacity p1 d at load i place p tag sfi nn spot₀ base₀ j₀ spot base j =
@@ -77,25 +60,10 @@ turn c =
 loop-holds : tie.Need-loop-holds Inv-loop2 μ-loop2 Inv-loop μ-loop
 loop-holds c = record { within = c .before .before .pre .0; steady = c .before .before .pre .1; same = refl }
 
-wanted-requires : tie.Need-wanted-requires Inv-loop2 μ-loop2 Inv-loop μ-loop
-wanted-requires c κs = search needs
-
-cast-sfi : tie.Need-cast-sfi Inv-loop2 μ-loop2 Inv-loop μ-loop
-cast-sfi c = search needs
-
-cast-nn : tie.Need-cast-nn Inv-loop2 μ-loop2 Inv-loop μ-loop
-cast-nn c = search needs
-
-scan-from-requires : tie.Need-scan-from-requires Inv-loop2 μ-loop2 Inv-loop μ-loop
-scan-from-requires c κs = search needs
-
 loop2-holds : tie.Need-loop2-holds Inv-loop2 μ-loop2 Inv-loop μ-loop
 loop2-holds c =
     let g = c .before .before .before .before .loop in
     rw (c .scan-from .ensures) (scan-begins (g .load .files) (g .load .count) (omega (arith, g .inv .steady .inside .count, g .inv .steady .inside .room)) _ _)
-
-mul-f : tie.Need-mul-f Inv-loop2 μ-loop2 Inv-loop μ-loop
-mul-f c = search needs
 
 element-copy-out-f : tie.Need-element-copy-out-f Inv-loop2 μ-loop2 Inv-loop μ-loop
 element-copy-out-f c =
@@ -107,17 +75,11 @@ spot-in-requires c κs =
     let g = c .before .before .before .before .before .before .before .before .before .loop in
     omega (arith, c .before .before .before .before .loop2 .inv .below, c .before .before .before .before .loop2 .inv .within, g .inv .steady .inside .count)
 
-loop2-less : tie.Need-loop2-less Inv-loop2 μ-loop2 Inv-loop μ-loop
-loop2-less c = omega arith
-
 loop2-again : tie.Need-loop2-again Inv-loop2 μ-loop2 Inv-loop μ-loop
 loop2-again c =
     let g = c .before .before .before .before .before .before .before .before .before .before .loop in
     let r = c .before .before .before .before .before .loop2 in
     scan-found (g .load .files) (g .load .count) (omega (arith, g .inv .steady .inside .count, g .inv .steady .inside .room)) _ _ (r .spot) (r .base) (r .j) (r .inv) (c .before .before .before .before .loop2-test .taken) _ (c .before .if1 .taken) (c .spot-in .ensures)
-
-size-of-requires : tie.Need-size-of-requires Inv-loop2 μ-loop2 Inv-loop μ-loop
-size-of-requires c κs = search needs
 
 add-base : tie.Need-add-base Inv-loop2 μ-loop2 Inv-loop μ-loop
 add-base c =
@@ -128,9 +90,6 @@ add-j : tie.Need-add-j Inv-loop2 μ-loop2 Inv-loop μ-loop
 add-j c =
     let g = c .before .before .before .before .before .before .before .before .before .before .loop in
     omega (arith, g .inv .steady .inside .count)
-
-loop2-less-2 : tie.Need-loop2-less-2 Inv-loop2 μ-loop2 Inv-loop μ-loop
-loop2-less-2 c = omega arith
 
 loop2-again-2 : tie.Need-loop2-again-2 Inv-loop2 μ-loop2 Inv-loop μ-loop
 loop2-again-2 c =
@@ -143,9 +102,6 @@ step-at-requires c κs =
     let g = c .before .before .before .before .before .before .loop in
     let b = drop (g .i) (now (c .before .before .before .before .before .before .before .before .before .args .d)) in
     (c .before .before .before .before .before .loop-test .taken, spot-within (g .load) (g .area) (g .inv .steady) b _ (found c), spot-fits (g .load) (g .area) (g .inv .steady) b _ (found c))
-
-enum-known-course : tie.Need-enum-known-course Inv-loop2 μ-loop2 Inv-loop μ-loop
-enum-known-course c = search needs
 
 sub-lay : tie.Need-sub-lay Inv-loop2 μ-loop2 Inv-loop μ-loop
 sub-lay c =
@@ -199,9 +155,6 @@ loop-again c =
     )
     (turn (c .before .before .before .before .before .before .before .before .before) .lays _ _ _ (c .before .before .before .before .before .before .course .given .1))
 
-enum-known-course-2 : tie.Need-enum-known-course-2 Inv-loop2 μ-loop2 Inv-loop μ-loop
-enum-known-course-2 c = search needs
-
 sub-kept-as : tie.Need-sub-kept-as Inv-loop2 μ-loop2 Inv-loop μ-loop
 sub-kept-as c =
     let a = turn (c .before .before .before .before) .ahead _ (c .before .course2 .given .1) in
@@ -232,16 +185,10 @@ loop-again-2 : tie.Need-loop-again-2 Inv-loop2 μ-loop2 Inv-loop μ-loop
 loop-again-2 c =
     rw (c .kept-as .ensures) (turn (c .before .before .before .before .before .before) .keeps _ _ _ (c .before .before .before .course2 .given .1))
 
-enum-known-course-3 : tie.Need-enum-known-course-3 Inv-loop2 μ-loop2 Inv-loop μ-loop
-enum-known-course-3 c = search needs
-
 table-fed-requires : tie.Need-table-fed-requires Inv-loop2 μ-loop2 Inv-loop μ-loop
 table-fed-requires c κs =
     let a = turn (c .before .before .before .before) .ahead _ (c .before .course3 .given .1) in
     (a .1, a .3)
-
-enum-known-verdict : tie.Need-enum-known-verdict Inv-loop2 μ-loop2 Inv-loop μ-loop
-enum-known-verdict c = search needs
 
 loop-less-3 : tie.Need-loop-less-3 Inv-loop2 μ-loop2 Inv-loop μ-loop
 loop-less-3 c =
@@ -253,9 +200,6 @@ loop-again-3 c =
     let a = turn (c .before .before .before .before .before .before .before .before .before) .ahead _ (c .before .before .before .before .before .before .course3 .given .1) in
     turn (c .before .before .before .before .before .before .before .before .before) .feeds _ (c .before .before .before .before .before .before .course3 .given .1) _ _ (c .before .before .before .before .table-fed .ensures .0) _ (c .before .verdict .given .1) (omega (arith, a, reaches _ _ _ (c .before .verdict .given .1) (c .before .before .before .before .table-fed .ensures .1)))
 
-enum-known-verdict-2 : tie.Need-enum-known-verdict-2 Inv-loop2 μ-loop2 Inv-loop μ-loop
-enum-known-verdict-2 c = search needs
-
 same-length : tie.Need-same-length Inv-loop2 μ-loop2 Inv-loop μ-loop
 same-length c =
     c .before .before .before .before .before .before .before .before .before .before .before .before .before .before .before .before .loop .inv .steady .area ∙ sym (c .before .before .before .before .before .before .before .before .before .before .before .before .before .before .before .before .before .before .before .pre .1 .area)
@@ -264,18 +208,12 @@ returns : tie.Need-returns Inv-loop2 μ-loop2 Inv-loop μ-loop
 returns c =
     turn (c .before .before .before .before .before .before .before .before .before) .refuses _ (c .before .before .before .before .before .before .course3 .given .1) _ _ (c .before .before .before .before .table-fed .ensures .0) _ (c .before .verdict2 .given .1)
 
-enum-known-course-4 : tie.Need-enum-known-course-4 Inv-loop2 μ-loop2 Inv-loop μ-loop
-enum-known-course-4 c = search needs
-
 same-length-2 : tie.Need-same-length-2 Inv-loop2 μ-loop2 Inv-loop μ-loop
 same-length-2 c =
     c .before .before .before .before .before .before .before .before .before .before .before .loop .inv .steady .area ∙ sym (c .before .before .before .before .before .before .before .before .before .before .before .before .before .before .pre .1 .area)
 
 returns-2 : tie.Need-returns-2 Inv-loop2 μ-loop2 Inv-loop μ-loop
 returns-2 c = turn (c .before .before .before .before) .asks _ (c .before .course4 .given .1)
-
-enum-known-course-5 : tie.Need-enum-known-course-5 Inv-loop2 μ-loop2 Inv-loop μ-loop
-enum-known-course-5 c = search needs
 
 same-length-3 : tie.Need-same-length-3 Inv-loop2 μ-loop2 Inv-loop μ-loop
 same-length-3 c =
@@ -293,58 +231,11 @@ returns-4 c = rests-so _ _ _ _ _ _ _ _ (c .before .loop .inv) (c .loop-test .lef
 pub walked-spec : {M : Type 1} → statement M
 walked-spec =
     tie.close
-    (tie.spec
-    Inv-loop2
-    μ-loop2
-    Inv-loop
-    μ-loop
-    loop-holds
-    wanted-requires
-    cast-sfi
-    cast-nn
-    scan-from-requires
-    loop2-holds
-    mul-f
-    element-copy-out-f
-    spot-in-requires
-    loop2-less
-    loop2-again
-    size-of-requires
-    add-base
-    add-j
-    loop2-less-2
-    loop2-again-2
-    step-at-requires
-    enum-known-course
-    sub-lay
-    part-lay-start
-    part-lay-end
-    sub-lay-2
-    part-lay-start-2
-    part-lay-end-2
-    lay-requires
-    loop-less
-    loop-again
-    enum-known-course-2
-    sub-kept-as
-    part-kept-as-start
-    part-kept-as-end
-    kept-as-requires
-    loop-less-2
-    loop-again-2
-    enum-known-course-3
-    table-fed-requires
-    enum-known-verdict
-    loop-less-3
-    loop-again-3
-    enum-known-verdict-2
-    same-length
-    returns
-    enum-known-course-4
-    same-length-2
-    returns-2
-    enum-known-course-5
-    same-length-3
-    returns-3
-    same-length-4
+    (tie.spec Inv-loop2 μ-loop2 Inv-loop μ-loop loop-holds (search needs) (search needs) (search needs)
+    (search needs) loop2-holds (search needs) element-copy-out-f spot-in-requires (search needs) loop2-again
+    (search needs) add-base add-j (search needs) loop2-again-2 step-at-requires (search needs) sub-lay
+    part-lay-start part-lay-end sub-lay-2 part-lay-start-2 part-lay-end-2 lay-requires loop-less loop-again
+    (search needs) sub-kept-as part-kept-as-start part-kept-as-end kept-as-requires loop-less-2 loop-again-2
+    (search needs) table-fed-requires (search needs) loop-less-3 loop-again-3 (search needs) same-length
+    returns (search needs) same-length-2 returns-2 (search needs) same-length-3 returns-3 same-length-4
     returns-4)

@@ -4,24 +4,6 @@ use Rattle.names.proofs.Install.{install-form}
 use Rattle.names.proofs.is_install_form.Statement.{statement}
 use Rattle.names.proofs.is_install_form.Tie as tie
 
-places-in-requires : tie.Need-places-in-requires
-places-in-requires c κs = search needs
-
-name-length-requires : tie.Need-name-length-requires
-name-length-requires c κs = search needs
-
-name-length-requires-2 : tie.Need-name-length-requires-2
-name-length-requires-2 c κs = search needs
-
-name-length-requires-3 : tie.Need-name-length-requires-3
-name-length-requires-3 c κs = search needs
-
-slice-aggregate-tail-is : tie.Need-slice-aggregate-tail-is
-slice-aggregate-tail-is c = search needs
-
-tail-is-requires : tie.Need-tail-is-requires
-tail-is-requires c κs = search needs
-
 returns : tie.Need-returns
 returns c =
     let if3 = c .before .before .if3 in
@@ -60,14 +42,5 @@ returns-4 c =
 pub is-install-form-spec : {M : Type 1} → statement M
 is-install-form-spec =
     tie.close
-    (tie.spec
-    places-in-requires
-    name-length-requires
-    name-length-requires-2
-    name-length-requires-3
-    slice-aggregate-tail-is
-    tail-is-requires
-    returns
-    returns-2
-    returns-3
-    returns-4)
+    (tie.spec (search needs) (search needs) (search needs) (search needs) (search needs) (search needs)
+    returns returns-2 returns-3 returns-4)

@@ -18,13 +18,7 @@ slice-aggregate-same-bytes c =
     let e : length (s .args .life .name) ≡ 16 = search needs in
     sym (length-take-le (s .args .life .namelen) (s .args .life .name) (omega arith))
 
-same-bytes-requires : tie.Need-same-bytes-requires
-same-bytes-requires c κs = search needs
-
-returns : tie.Need-returns
-returns c = search needs
-
 pub is-named-spec : {M : Type 1} → statement M
 is-named-spec =
     tie.close
-    (tie.spec array-share-prefix-name slice-aggregate-same-bytes same-bytes-requires returns)
+    (tie.spec array-share-prefix-name slice-aggregate-same-bytes (λ c κs. search needs) (λ c. search needs))

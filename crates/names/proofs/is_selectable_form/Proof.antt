@@ -5,9 +5,6 @@ use borrow.Author.Tests.{eq-eqb, ne-eqb}
 use Rattle.names.proofs.is_selectable_form.Statement.{statement}
 use Rattle.names.proofs.is_selectable_form.Tie as tie
 
-places-in-requires : tie.Need-places-in-requires
-places-in-requires c κs = search needs
-
 returns : tie.Need-returns
 returns c =
     let p = c .before .before in
@@ -19,15 +16,6 @@ returns-2 c =
     let p = one .before .before in
     sym (selectable-form _ (p .places-in .result) (p .places-in .ensures .0)
     ∙ simp (eq-eqb _ _ (one .if1 .left), ne-eqb _ _ (c .if2 .taken)))
-
-name-length-requires : tie.Need-name-length-requires
-name-length-requires c κs = search needs
-
-slice-aggregate-tail-is : tie.Need-slice-aggregate-tail-is
-slice-aggregate-tail-is c = search needs
-
-tail-is-requires : tie.Need-tail-is-requires
-tail-is-requires c κs = search needs
 
 returns-3 : tie.Need-returns-3
 returns-3 c =
@@ -51,12 +39,5 @@ returns-4 c =
 pub is-selectable-form-spec : {M : Type 1} → statement M
 is-selectable-form-spec =
     tie.close
-    (tie.spec
-    places-in-requires
-    returns
-    returns-2
-    name-length-requires
-    slice-aggregate-tail-is
-    tail-is-requires
-    returns-3
+    (tie.spec (search needs) returns returns-2 (search needs) (search needs) (search needs) returns-3
     returns-4)

@@ -14,18 +14,6 @@ returns c =
     let s = c .before .before .before in
     sym (no-tail (now (s .args .d)) (now (s .args .fixed)) (s .args .at) (c .if1 .taken) (s .pre))
 
-sub-same-bytes : tie.Need-sub-same-bytes
-sub-same-bytes c = search needs
-
-part-same-bytes-start : tie.Need-part-same-bytes-start
-part-same-bytes-start c = search needs
-
-part-same-bytes-end : tie.Need-part-same-bytes-end
-part-same-bytes-end c = search needs
-
-same-bytes-requires : tie.Need-same-bytes-requires
-same-bytes-requires c κs = search needs
-
 returns-2 : tie.Need-returns-2
 returns-2 c =
     let s = c .before .before .before .before .before in
@@ -35,10 +23,4 @@ returns-2 c =
 pub tail-is-spec : {M : Type 1} → statement M
 tail-is-spec =
     tie.close
-    (tie.spec
-    returns
-    sub-same-bytes
-    part-same-bytes-start
-    part-same-bytes-end
-    same-bytes-requires
-    returns-2)
+    (tie.spec returns (search needs) (search needs) (search needs) (search needs) returns-2)

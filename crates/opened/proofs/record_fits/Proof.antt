@@ -6,20 +6,11 @@ use borrow.Author.Tests.{lt-leb}
 use Rattle.opened.proofs.record_fits.Statement.{statement}
 use Rattle.opened.proofs.record_fits.Tie as tie
 
-enum-told : tie.Need-enum-told
-enum-told c = search needs
-
-enum-known-spot : tie.Need-enum-known-spot
-enum-known-spot c = search needs
-
 returns : tie.Need-returns
 returns c =
     let s = c .before .before .spot .given in
     let a = c .before .before .before .before .args in
     rw (s .1, lt-leb (a .written + a .missing) (s .0 .1 .0) (omega arith))
-
-returns-2 : tie.Need-returns-2
-returns-2 c = search needs
 
 returns-3 : tie.Need-returns-3
 returns-3 c =
@@ -28,4 +19,4 @@ returns-3 c =
     rw (s .1) (fits-behind (a .written) (a .missing) (s .0 .1 .0) (c .if1 .left))
 
 pub record-fits-spec : {M : Type 1} → statement M
-record-fits-spec = tie.close (tie.spec enum-told enum-known-spot returns returns-2 returns-3)
+record-fits-spec = tie.close (tie.spec (λ c. search needs) (λ c. search needs) returns (λ c. search needs) returns-3)

@@ -2,18 +2,6 @@ use borrow.Author.Needs.{needs}
 use Rattle.opened.proofs.some_missing.Statement.{statement}
 use Rattle.opened.proofs.some_missing.Tie as tie
 
-enum-told : tie.Need-enum-told
-enum-told c = search needs
-
-enum-known-o : tie.Need-enum-known-o
-enum-known-o c = search needs
-
-enum-known-o-2 : tie.Need-enum-known-o-2
-enum-known-o-2 c = search needs
-
-returns : tie.Need-returns
-returns c = search needs
-
 returns-2 : tie.Need-returns-2
 returns-2 c = rw (c .before .o .given .1)
 
@@ -22,4 +10,4 @@ returns-3 c = rw (c .before .o2 .given .1)
 
 pub some-missing-spec : {M : Type 1} → statement M
 some-missing-spec =
-    tie.close (tie.spec enum-told enum-known-o enum-known-o-2 returns returns-2 returns-3)
+    tie.close (tie.spec (λ c. search needs) (λ c. search needs) (λ c. search needs) (λ c. search needs) returns-2 returns-3)

@@ -18,15 +18,6 @@ returns-3 c =
     let a = c .before .before .before .args in
     sym (sum-over (a .count) (a .held) (a .missing) (omega arith))
 
-mul-all : tie.Need-mul-all
-mul-all c = search needs
-
-add-all : tie.Need-add-all
-add-all c = search needs
-
-add-all-2 : tie.Need-add-all-2
-add-all-2 c = search needs
-
 returns-4 : tie.Need-returns-4
 returns-4 c = sym (sum-over _ _ _ (c .if4 .taken))
 
@@ -37,4 +28,4 @@ returns-5 c =
 
 pub table-fits-spec : {M : Type 1} → statement M
 table-fits-spec =
-    tie.close (tie.spec returns returns-2 returns-3 mul-all add-all add-all-2 returns-4 returns-5)
+    tie.close (tie.spec returns returns-2 returns-3 (search needs) (search needs) (search needs) returns-4 returns-5)

@@ -2,15 +2,6 @@ use borrow.Author.Needs.{needs}
 use Rattle.opened.proofs.value_ok.Statement.{statement}
 use Rattle.opened.proofs.value_ok.Tie as tie
 
-open-ok-requires : tie.Need-open-ok-requires
-open-ok-requires c κs = search needs
-
-pending-fits-requires : tie.Need-pending-fits-requires
-pending-fits-requires c κs = search needs
-
-some-missing-requires : tie.Need-some-missing-requires
-some-missing-requires c κs = search needs
-
 returns : tie.Need-returns
 returns c =
     let p = c .before .before in
@@ -29,10 +20,4 @@ returns-3 c = simp (← c .before .open-ok .ensures, c .if1 .left)
 pub value-ok-spec : {M : Type 1} → statement M
 value-ok-spec =
     tie.close
-    (tie.spec
-    open-ok-requires
-    pending-fits-requires
-    some-missing-requires
-    returns
-    returns-2
-    returns-3)
+    (tie.spec (search needs) (search needs) (search needs) returns returns-2 returns-3)

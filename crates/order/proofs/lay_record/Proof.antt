@@ -57,9 +57,6 @@ part-clear-end c =
 clear-requires : tie.Need-clear-requires
 clear-requires c κs = tt
 
-same-length : tie.Need-same-length
-same-length c = search needs
-
 returns : tie.Need-returns
 returns c =
     let third = c .before .before in
@@ -73,18 +70,6 @@ returns c =
 pub lay-record-spec : {M : Type 1} → statement M
 lay-record-spec =
     tie.close
-    (tie.spec
-    cast-t7
-    slice-aggregate-put-bytes
-    put-bytes-requires
-    add-put-bytes
-    put-bytes-requires-2
-    add-clear
-    add-clear-2
-    add-clear-3
-    sub-clear
-    part-clear-start
-    part-clear-end
-    clear-requires
-    same-length
-    returns)
+    (tie.spec cast-t7 slice-aggregate-put-bytes put-bytes-requires add-put-bytes put-bytes-requires-2
+    add-clear add-clear-2 add-clear-3 sub-clear part-clear-start part-clear-end clear-requires
+    (search needs) returns)

@@ -17,9 +17,6 @@ Inv-loop order room₀ to₀ start₀ end₀ room to start end = Laid order room
 abbrev μ-loop : tie.MeasureT-loop
 μ-loop order room₀ to₀ start₀ end₀ room to start end = length order - end .at
 
-slice-aggregate-lay-record : tie.Need-slice-aggregate-lay-record Inv-loop μ-loop
-slice-aggregate-lay-record c = search needs
-
 lay-record-requires : tie.Need-lay-record-requires Inv-loop μ-loop
 lay-record-requires c κs =
     let s = c .before .before .before .before in
@@ -112,24 +109,7 @@ returns c =
 pub lay-records-spec : {M : Type 1} → statement M
 lay-records-spec =
     tie.close
-    (tie.spec
-    Inv-loop
-    μ-loop
-    slice-aggregate-lay-record
-    lay-record-requires
-    command-end-requires
-    loop-holds
-    sub-lay-record
-    part-lay-record-start
-    part-lay-record-end
-    lay-record-requires-2
-    add-to
-    command-end-requires-2
-    loop-less
-    loop-again
-    sub-lay-record-2
-    part-lay-record-start-2
-    part-lay-record-end-2
-    lay-record-requires-3
-    same-length
-    returns)
+    (tie.spec Inv-loop μ-loop (search needs) lay-record-requires command-end-requires loop-holds
+    sub-lay-record part-lay-record-start part-lay-record-end lay-record-requires-2 add-to
+    command-end-requires-2 loop-less loop-again sub-lay-record-2 part-lay-record-start-2
+    part-lay-record-end-2 lay-record-requires-3 same-length returns)

@@ -5,9 +5,6 @@ use Rattle.lists.specs.Choice.{cases}
 use Rattle.places.proofs.spot_in.Statement.{statement}
 use Rattle.places.proofs.spot_in.Tie as tie
 
-size-of-requires : tie.Need-size-of-requires
-size-of-requires c κs = search needs
-
 returns : tie.Need-returns
 returns c = rw (c .size-of .ensures .0) (search cases)
 
@@ -23,12 +20,6 @@ returns-4 c = search cases
 returns-5 : tie.Need-returns-5
 returns-5 c = search cases
 
-wide-requires : tie.Need-wide-requires
-wide-requires c κs = search needs
-
-wide-requires-2 : tie.Need-wide-requires-2
-wide-requires-2 c κs = search needs
-
 mul-skipped : tie.Need-mul-skipped
 mul-skipped c = omega (arith, bytes-product (c .wide2 .ensures .1) (c .before .wide .ensures .1))
 
@@ -41,15 +32,5 @@ returns-6 c = rw (c .wide2 .ensures .0, c .before .wide .ensures .0) (search cas
 pub spot-in-spec : {M : Type 1} → statement M
 spot-in-spec =
     tie.close
-    (tie.spec
-    size-of-requires
-    returns
-    returns-2
-    returns-3
-    returns-4
-    returns-5
-    wide-requires
-    wide-requires-2
-    mul-skipped
-    add-begin
-    returns-6)
+    (tie.spec (search needs) returns returns-2 returns-3 returns-4 returns-5 (search needs) (search needs)
+    mul-skipped add-begin returns-6)

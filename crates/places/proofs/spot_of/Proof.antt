@@ -24,33 +24,12 @@ loop-holds : tie.Need-loop-holds Inv-loop μ-loop
 unfolding spotOf
 loop-holds c = (omega arith, omega arith, rw (ne-eqb (c .before .args .sfi) 0 (c .if1 .left)))
 
-mul-d : tie.Need-mul-d Inv-loop μ-loop
-mul-d c = search needs
-
-array-copy-out-d : tie.Need-array-copy-out-d Inv-loop μ-loop
-array-copy-out-d c = search needs
-
-spot-in-requires : tie.Need-spot-in-requires Inv-loop μ-loop
-spot-in-requires c κs = search needs
-
 returns-2 : tie.Need-returns-2 Inv-loop μ-loop
 returns-2 c =
     let l = c .before .before .before .before .before .loop in
     let a = c .before .before .before .before .before .before .before .args in
     let fits : a .count ≤ length (a .t1) = search needs in
     spot-found (a .t1) (a .count) fits (l .i) (l .base) (a .sfi) (a .nn) (omega arith) (c .before .if2 .taken) (c .spot-in .ensures) (l .inv .2)
-
-size-of-requires : tie.Need-size-of-requires Inv-loop μ-loop
-size-of-requires c κs = search needs
-
-add-base : tie.Need-add-base Inv-loop μ-loop
-add-base c = search needs
-
-add-i : tie.Need-add-i Inv-loop μ-loop
-add-i c = search needs
-
-loop-less : tie.Need-loop-less Inv-loop μ-loop
-loop-less c = search needs
 
 loop-again : tie.Need-loop-again Inv-loop μ-loop
 loop-again c =
@@ -73,18 +52,5 @@ returns-3 c =
 pub spot-of-spec : {M : Type 1} → statement M
 spot-of-spec =
     tie.close
-    (tie.spec
-    Inv-loop
-    μ-loop
-    returns
-    loop-holds
-    mul-d
-    array-copy-out-d
-    spot-in-requires
-    returns-2
-    size-of-requires
-    add-base
-    add-i
-    loop-less
-    loop-again
-    returns-3)
+    (tie.spec Inv-loop μ-loop returns loop-holds (search needs) (search needs) (search needs) returns-2
+    (search needs) (search needs) (search needs) (search needs) loop-again returns-3)

@@ -4,26 +4,14 @@ use borrow.Author.Tests.{eq-eqb, ne-eqb}
 use Rattle.queries.proofs.challenge_given.Statement.{statement}
 use Rattle.queries.proofs.challenge_given.Tie as tie
 
-failed-by-requires : tie.Need-failed-by-requires
-failed-by-requires c κs = search needs
-
 returns : tie.Need-returns
 unfolding challenged
 returns c = λ l a. rw (c .failed-by .ensures, ne-eqb _ _ (c .before .if1 .taken))
-
-is-due-requires : tie.Need-is-due-requires
-is-due-requires c κs = search needs
-
-with-taken-requires : tie.Need-with-taken-requires
-with-taken-requires c κs = search needs
 
 returns-2 : tie.Need-returns-2
 unfolding challenged
 returns-2 c =
     λ l a. rw (c .with-taken .ensures, eq-eqb _ _ (c .before .before .before .if1 .left), ← c .before .before .is-due .ensures, c .before .if2 .taken)
-
-failed-by-requires-2 : tie.Need-failed-by-requires-2
-failed-by-requires-2 c κs = search needs
 
 returns-3 : tie.Need-returns-3
 unfolding challenged
@@ -33,11 +21,4 @@ returns-3 c =
 pub challenge-given-spec : {M : Type 1} → statement M
 challenge-given-spec =
     tie.close
-    (tie.spec
-    failed-by-requires
-    returns
-    is-due-requires
-    with-taken-requires
-    returns-2
-    failed-by-requires-2
-    returns-3)
+    (tie.spec (search needs) returns (search needs) (search needs) returns-2 (search needs) returns-3)

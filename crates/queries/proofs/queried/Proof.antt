@@ -5,31 +5,19 @@ use borrow.Author.Tests.{eq-eqb, ne-eqb, lt-leb, le-leb}
 use Rattle.queries.proofs.queried.Statement.{statement}
 use Rattle.queries.proofs.queried.Tie as tie
 
-failed-by-requires : tie.Need-failed-by-requires
-failed-by-requires c κs = search needs
-
 returns : tie.Need-returns
 unfolding query
 returns c = λ bytes l a e. rw (c .failed-by .ensures, not-first _ _ _ e (c .before .before .pre) (c .before .if1 .taken))
-
-failed-by-requires-2 : tie.Need-failed-by-requires-2
-failed-by-requires-2 c κs = search needs
 
 returns-2 : tie.Need-returns-2
 unfolding query
 returns-2 c =
     λ bytes l a e. rw (c .failed-by2 .ensures, first _ _ _ e (c .before .before .before .if1 .left), ne-eqb _ _ (c .before .if2 .taken))
 
-failed-by-requires-3 : tie.Need-failed-by-requires-3
-failed-by-requires-3 c κs = search needs
-
 returns-3 : tie.Need-returns-3
 unfolding query
 returns-3 c =
     λ bytes l a e. rw (c .failed-by3 .ensures, first _ _ _ e (c .before .before .before .before .before .if1 .left), eq-eqb _ _ (c .before .before .before .if2 .left), ne-eqb _ _ (c .before .if3 .taken))
-
-failed-by-requires-4 : tie.Need-failed-by-requires-4
-failed-by-requires-4 c κs = search needs
 
 returns-4 : tie.Need-returns-4
 unfolding query
@@ -37,17 +25,11 @@ returns-4 c =
     λ bytes l a e. let s = c .before .before in
     rw (c .failed-by4 .ensures, alone _ _ _ _ _ e (s .before .before .before .before .if1 .left) (s .before .before .if2 .left) (s .if3 .left), ne-eqb _ _ (c .before .if4 .taken))
 
-failed-by-requires-5 : tie.Need-failed-by-requires-5
-failed-by-requires-5 c κs = search needs
-
 returns-5 : tie.Need-returns-5
 unfolding query
 returns-5 c =
     λ bytes l a e. let s = c .before .before .before in
     rw (c .failed-by5 .ensures, alone _ _ _ _ _ e (s .before .before .before .before .if1 .left) (s .before .before .if2 .left) (s .if3 .left), eq-eqb _ _ (c .before .before .if4 .left), le-leb _ _ (c .before .if5 .taken))
-
-challenge-given-requires : tie.Need-challenge-given-requires
-challenge-given-requires c κs = search needs
 
 returns-6 : tie.Need-returns-6
 unfolding query
@@ -64,17 +46,5 @@ returns-7 c =
 pub queried-spec : {M : Type 1} → statement M
 queried-spec =
     tie.close
-    (tie.spec
-    failed-by-requires
-    returns
-    failed-by-requires-2
-    returns-2
-    failed-by-requires-3
-    returns-3
-    failed-by-requires-4
-    returns-4
-    failed-by-requires-5
-    returns-5
-    challenge-given-requires
-    returns-6
-    returns-7)
+    (tie.spec (search needs) returns (search needs) returns-2 (search needs) returns-3 (search needs)
+    returns-4 (search needs) returns-5 (search needs) returns-6 returns-7)

@@ -7,24 +7,6 @@ use Rattle.model.specs.declared.Pulled.the-variants.{Ended, Broken, Grouping}
 use Rattle.reader.proofs.found_at.Statement.{statement}
 use Rattle.reader.proofs.found_at.Tie as tie
 
-pull-at-requires : tie.Need-pull-at-requires
-pull-at-requires c κs = search needs
-
-enum-told : tie.Need-enum-told
-enum-told c = search needs
-
-nothing-found-requires : tie.Need-nothing-found-requires
-nothing-found-requires c κs = search needs
-
-enum-told-2 : tie.Need-enum-told-2
-enum-told-2 c = search needs
-
-nothing-found-requires-2 : tie.Need-nothing-found-requires-2
-nothing-found-requires-2 c κs = search needs
-
-enum-known-pulled : tie.Need-enum-known-pulled
-enum-known-pulled c = search needs
-
 add-t8 : tie.Need-add-t8
 add-t8 c =
     let pull-at = c .before .before .before .pull-at in
@@ -54,14 +36,5 @@ returns-3 c =
 pub found-at-spec : {M : Type 1} → statement M
 found-at-spec =
     tie.close
-    (tie.spec
-    pull-at-requires
-    enum-told
-    nothing-found-requires
-    enum-told-2
-    nothing-found-requires-2
-    enum-known-pulled
-    add-t8
-    returns
-    returns-2
-    returns-3)
+    (tie.spec (search needs) (search needs) (search needs) (search needs) (search needs) (search needs)
+    add-t8 returns returns-2 returns-3)

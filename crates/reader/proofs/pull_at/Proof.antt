@@ -9,18 +9,6 @@ use Rattle.reader.proofs.pull_at.Tie as tie
 returns : tie.Need-returns
 returns c = sym (pull-end _ _ (c .if1 .taken))
 
-header-at-requires : tie.Need-header-at-requires
-header-at-requires c κs = search needs
-
-enum-told : tie.Need-enum-told
-enum-told c = search needs
-
-enum-known-h : tie.Need-enum-known-h
-enum-known-h c = search needs
-
-sub-if2 : tie.Need-sub-if2
-sub-if2 c = search needs
-
 sub-if2-2 : tie.Need-sub-if2-2
 sub-if2-2 c =
     let a = c .before .before .before .before .before .before .before .args in
@@ -57,14 +45,5 @@ returns-4 c =
 pub pull-at-spec : {M : Type 1} → statement M
 pull-at-spec =
     tie.close
-    (tie.spec
-    returns
-    header-at-requires
-    enum-told
-    enum-known-h
-    sub-if2
-    sub-if2-2
-    returns-2
-    add-t8
-    returns-3
-    returns-4)
+    (tie.spec returns (search needs) (search needs) (search needs) (search needs) sub-if2-2 returns-2 add-t8
+    returns-3 returns-4)

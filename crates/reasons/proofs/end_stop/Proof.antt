@@ -5,18 +5,6 @@ use Rattle.reasons.specs.Reasons.{openStop}
 use Rattle.reasons.proofs.end_stop.Statement.{statement}
 use Rattle.reasons.proofs.end_stop.Tie as tie
 
-enum-told : tie.Need-enum-told
-enum-told c = search needs
-
-sub-t10 : tie.Need-sub-t10
-sub-t10 c = search needs
-
-enum-known-pending : tie.Need-enum-known-pending
-enum-known-pending c = search needs
-
-enum-known-pending-2 : tie.Need-enum-known-pending-2
-enum-known-pending-2 c = search needs
-
 returns : tie.Need-returns
 returns c =
     let s = c .before .before .before .args in
@@ -35,4 +23,4 @@ returns-3 c =
 pub end-stop-spec : {M : Type 1} → statement M
 end-stop-spec =
     tie.close
-    (tie.spec enum-told sub-t10 enum-known-pending enum-known-pending-2 returns returns-2 returns-3)
+    (tie.spec (search needs) (search needs) (search needs) (search needs) returns returns-2 returns-3)

@@ -8,17 +8,8 @@ use Rattle.reasons.proofs.Walks.{walked-tells}
 use Rattle.reasons.proofs.why_behind.Statement.{statement}
 use Rattle.reasons.proofs.why_behind.Tie as tie
 
-challenged-requires : tie.Need-challenged-requires
-challenged-requires c κs = search needs
-
-slice-aggregate-walked : tie.Need-slice-aggregate-walked
-slice-aggregate-walked c = search needs
-
 walked-requires : tie.Need-walked-requires
 walked-requires c κs = (omega arith, steady-start _ (c .before .challenged .ensures))
-
-enum-told : tie.Need-enum-told
-enum-told c = search needs
 
 sub-at-end : tie.Need-sub-at-end
 sub-at-end c =
@@ -27,21 +18,12 @@ sub-at-end c =
     let q = walked-tells (s .args .capacity) (now (s .args .d)) _ (w .before .before .challenged .ensures) _ _ _ _ (w .walked .ensures) _ (c .before .enum-told .given .1) in
     omega (arith, q .0)
 
-at-end-requires : tie.Need-at-end-requires
-at-end-requires c κs = search needs
-
-enum-told-2 : tie.Need-enum-told-2
-enum-told-2 c = search needs
-
 stop-at-requires : tie.Need-stop-at-requires
 stop-at-requires c κs =
     let w = c .before .before .before in
     let s = w .before .before .before .before in
     let q = walked-tells (s .args .capacity) (now (s .args .d)) _ (w .before .before .challenged .ensures) _ _ _ _ (w .walked .ensures) _ (c .enum-told2 .given .1) in
     (w .walked .ensures .steady .inside .count, q .0, q .1, s .pre .1)
-
-enum-known-end : tie.Need-enum-known-end
-enum-known-end c = search needs
 
 stop-at-requires-2 : tie.Need-stop-at-requires-2
 stop-at-requires-2 c κs =
@@ -74,17 +56,5 @@ returns-3 c =
 pub why-behind-spec : {M : Type 1} → statement M
 why-behind-spec =
     tie.close
-    (tie.spec
-    challenged-requires
-    slice-aggregate-walked
-    walked-requires
-    enum-told
-    sub-at-end
-    at-end-requires
-    enum-told-2
-    stop-at-requires
-    enum-known-end
-    stop-at-requires-2
-    returns
-    returns-2
-    returns-3)
+    (tie.spec (search needs) (search needs) walked-requires (search needs) sub-at-end (search needs)
+    (search needs) stop-at-requires (search needs) stop-at-requires-2 returns returns-2 returns-3)

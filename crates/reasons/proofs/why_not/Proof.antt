@@ -6,27 +6,6 @@ use Rattle.reasons.proofs.Walks.{why-behind-so}
 use Rattle.reasons.proofs.why_not.Statement.{statement}
 use Rattle.reasons.proofs.why_not.Tie as tie
 
-slice-aggregate-lay : tie.Need-slice-aggregate-lay
-slice-aggregate-lay c = search needs
-
-slice-aggregate-lay-2 : tie.Need-slice-aggregate-lay-2
-slice-aggregate-lay-2 c = search needs
-
-lay-requires : tie.Need-lay-requires
-lay-requires c κs = search needs
-
-slice-aggregate-put-bytes : tie.Need-slice-aggregate-put-bytes
-slice-aggregate-put-bytes c = search needs
-
-put-bytes-requires : tie.Need-put-bytes-requires
-put-bytes-requires c κs = search needs
-
-add-end : tie.Need-add-end
-add-end c = search needs
-
-array-share-prefix-data : tie.Need-array-share-prefix-data
-array-share-prefix-data c = search needs
-
 slice-aggregate-why-behind : tie.Need-slice-aggregate-why-behind
 slice-aggregate-why-behind c =
     let s = c .before .before .before .before .before .before .before .before .before .args in
@@ -54,14 +33,5 @@ returns c =
 pub why-not-spec : {M : Type 1} → statement M
 why-not-spec =
     tie.close
-    (tie.spec
-    slice-aggregate-lay
-    slice-aggregate-lay-2
-    lay-requires
-    slice-aggregate-put-bytes
-    put-bytes-requires
-    add-end
-    array-share-prefix-data
-    slice-aggregate-why-behind
-    why-behind-requires
-    returns)
+    (tie.spec (search needs) (search needs) (search needs) (search needs) (search needs) (search needs)
+    (search needs) slice-aggregate-why-behind why-behind-requires returns)

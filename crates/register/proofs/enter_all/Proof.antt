@@ -1,37 +1,17 @@
-use Prim.Native.Nat.{ℕ, suc, _+_, _*_, _-_, _≤_, _<_, _/_, _%_}
+use Prim.Native.Nat.{ℕ, _+_, _*_, _-_, _≤_, _<_, _/_}
 use mathlib.Core.Path.{_≡_, refl, ap, sym, _∙_}
-use mathlib.Core.List.{List, [], _∷_, _++_}
+use mathlib.Core.List.{List}
 use native.Mathlib.Omega.{arith}
-use native.Mathlib.Numerals.{add-one}
-use lib.ListN.{length, take, drop, set, getD, length-set, length-take, length-drop, length-append}
+use lib.ListN.{length, take, drop, length-take, length-drop}
 use denote.Ref.{now}
 use borrow.Author.Needs.{needs}
 use Rattle.register.proofs.enter_all.Statement.{statement}
 use Rattle.register.proofs.enter_all.Tie as tie
-use Rattle.register.proofs.enter_all.Reads as reads
-use Rattle.register.proofs.enter_all.Lts as lts
-use Rattle.bytes.proofs.wide.Reads as wide-reads
-use Rattle.content.proofs.kept_as.Reads as kept-as-reads
-use Rattle.events.proofs.lived.Reads as lived-reads
-use Rattle.feed.proofs.table_fed.Reads as table-fed-reads
-use Rattle.kinds.proofs.fault_in.Reads as fault-in-reads
-use Rattle.lines.proofs.put_line.Reads as put-line-reads
-use Rattle.load.proofs.settled.Reads as settled-reads
-use Rattle.places.proofs.scan_from.Reads as scan-from-reads
-use Rattle.places.proofs.spot_in.Reads as spot-in-reads
-use Rattle.register.proofs.held_as.Reads as held-as-reads
-use Rattle.register.proofs.locked_as.Reads as locked-as-reads
-use Rattle.register.proofs.shut_as.Reads as shut-as-reads
-use Rattle.register.proofs.span.Reads as span-reads
-use Rattle.sizes.proofs.size_of.Reads as size-of-reads
-use Rattle.slices.proofs.lay.Reads as lay-reads
-use Rattle.walk.proofs.step_at.Reads as step-at-reads
-use Rattle.walk.proofs.wanted.Reads as wanted-reads
 use Rattle.model.specs.Stored.{areaSize}
 use Rattle.places.specs.Scans.{Scanning}
 use Rattle.places.proofs.Scans.{scan-begins, scan-more, scan-found, scan-ends}
 use Rattle.steps.specs.Steps.{stateOf}
-use Rattle.walk.specs.Paces.{onward}
+use Rattle.walk.specs.Paces.{onward, Paced}
 use Rattle.load.proofs.Owner.{Pacing}
 use Rattle.register.specs.Entries.{Enters, enteredOf}
 use Rattle.register.proofs.Entries.{enters-none, enters-good, enters-more}
@@ -44,7 +24,6 @@ use Rattle.model.specs.Loads.{fileList}
 use Rattle.model.specs.Rules.{tagSpot}
 use Rattle.soundness.specs.Keeps.{Good}
 use Rattle.walk.specs.Turns.{wantedTag}
-use Rattle.walk.specs.Paces.{Paced}
 use Rattle.load.specs.declared.End.{End}
 use Rattle.load.specs.declared.End.the-variants as end
 use Rattle.load.specs.Ends.{Walked}
@@ -54,11 +33,10 @@ use Rattle.events.proofs.Named.{good-steady}
 use Rattle.events.proofs.ByKind.{command-selected, command-data}
 use Rattle.register.proofs.Owned.{span-command, span-other, turn-command, turn-lived, turn-refused}
 use mathlib.Core.Bool.{true}
-use Rattle.register.proofs.Owned.{span-command, span-other, turn-command, turn-lived, turn-refused, settled-so, lived-so}
+use Rattle.register.proofs.Owned.{settled-so, lived-so}
 use mathlib.Core.Logic.{_⊎_, ⊎-elim}
 use native.Mathlib.Nat.{add-sub-cancel-left}
-use Rattle.model.specs.Session.{turnOf}
-use Rattle.model.specs.Session.{Turn as Turned}
+use Rattle.model.specs.Session.{turnOf, Turn as Turned}
 
 abbrev Inv-loop3 : tie.InvT-loop3
 Inv-loop3 area records count out answer chip capacity life load i k from r number p1 stop d n at end p tag sfi nn spot₀ base₀ j₀ spot base j =
@@ -237,24 +215,6 @@ played c =
 loop-holds : tie.Need-loop-holds Inv-loop3 μ-loop3 Inv-loop2 μ-loop2 Inv-loop μ-loop
 loop-holds c = (enters-none _ _ _ _ _, refl, refl, omega arith, omega arith)
 
-mul-from : tie.Need-mul-from Inv-loop3 μ-loop3 Inv-loop2 μ-loop2 Inv-loop μ-loop
-mul-from c = search needs
-
-add-r : tie.Need-add-r Inv-loop3 μ-loop3 Inv-loop2 μ-loop2 Inv-loop μ-loop
-add-r c = search needs
-
-sub-r : tie.Need-sub-r Inv-loop3 μ-loop3 Inv-loop2 μ-loop2 Inv-loop μ-loop
-sub-r c = search needs
-
-part-r-start : tie.Need-part-r-start Inv-loop3 μ-loop3 Inv-loop2 μ-loop2 Inv-loop μ-loop
-part-r-start c = search needs
-
-part-r-end : tie.Need-part-r-end Inv-loop3 μ-loop3 Inv-loop2 μ-loop2 Inv-loop μ-loop
-part-r-end c = search needs
-
-fault-in-requires : tie.Need-fault-in-requires Inv-loop3 μ-loop3 Inv-loop2 μ-loop2 Inv-loop μ-loop
-fault-in-requires c κs = search needs
-
 shared-slice-read-p1 :
     tie.Need-shared-slice-read-p1 Inv-loop3 μ-loop3 Inv-loop2 μ-loop2 Inv-loop μ-loop
 shared-slice-read-p1 c = search needs
@@ -263,27 +223,9 @@ shared-slice-read-wide :
     tie.Need-shared-slice-read-wide Inv-loop3 μ-loop3 Inv-loop2 μ-loop2 Inv-loop μ-loop
 shared-slice-read-wide c = search needs
 
-wide-requires : tie.Need-wide-requires Inv-loop3 μ-loop3 Inv-loop2 μ-loop2 Inv-loop μ-loop
-wide-requires c κs = search needs
-
-add-stop : tie.Need-add-stop Inv-loop3 μ-loop3 Inv-loop2 μ-loop2 Inv-loop μ-loop
-add-stop c = search needs
-
-sub-d : tie.Need-sub-d Inv-loop3 μ-loop3 Inv-loop2 μ-loop2 Inv-loop μ-loop
-sub-d c = search needs
-
-part-d-start : tie.Need-part-d-start Inv-loop3 μ-loop3 Inv-loop2 μ-loop2 Inv-loop μ-loop
-part-d-start c = search needs
-
-part-d-end : tie.Need-part-d-end Inv-loop3 μ-loop3 Inv-loop2 μ-loop2 Inv-loop μ-loop
-part-d-end c = search needs
-
 shared-slice-read-span :
     tie.Need-shared-slice-read-span Inv-loop3 μ-loop3 Inv-loop2 μ-loop2 Inv-loop μ-loop
 shared-slice-read-span c = search needs
-
-span-requires : tie.Need-span-requires Inv-loop3 μ-loop3 Inv-loop2 μ-loop2 Inv-loop μ-loop
-span-requires c κs = search needs
 
 loop2-holds : tie.Need-loop2-holds Inv-loop3 μ-loop3 Inv-loop2 μ-loop2 Inv-loop μ-loop
 loop2-holds c =
@@ -303,12 +245,6 @@ loop2-holds c =
 
 wanted-requires : tie.Need-wanted-requires Inv-loop3 μ-loop3 Inv-loop2 μ-loop2 Inv-loop μ-loop
 wanted-requires c κs = left (c .before) .1
-
-cast-sfi : tie.Need-cast-sfi Inv-loop3 μ-loop3 Inv-loop2 μ-loop2 Inv-loop μ-loop
-cast-sfi c = search needs
-
-cast-nn : tie.Need-cast-nn Inv-loop3 μ-loop3 Inv-loop2 μ-loop2 Inv-loop μ-loop
-cast-nn c = search needs
 
 scan-from-requires :
     tie.Need-scan-from-requires Inv-loop3 μ-loop3 Inv-loop2 μ-loop2 Inv-loop μ-loop
@@ -343,9 +279,6 @@ loop3-again c =
     let r = c .before .before .before .before .before .loop3 in
     scan-found (g .load .files) (g .load .count) (fits (c .before .before .before .before .before .before .before .before .before)) _ _ (r .spot) (r .base) (r .j) (r .inv) (c .before .before .before .before .loop3-test .taken) _ (c .before .if1 .taken) (c .spot-in .ensures)
 
-size-of-requires : tie.Need-size-of-requires Inv-loop3 μ-loop3 Inv-loop2 μ-loop2 Inv-loop μ-loop
-size-of-requires c κs = search needs
-
 add-base : tie.Need-add-base Inv-loop3 μ-loop3 Inv-loop2 μ-loop2 Inv-loop μ-loop
 add-base c =
     let y = left (c .before .before .before .before .before .before .before .before .before) .2 .going .steady .inside in
@@ -372,9 +305,6 @@ step-at-requires c κs =
     let l = left (c .before .before .before .before .before) in
     let b = drop (g .at) (dat (c .before .before .before .before .before .before .before)) in
     (l .1, spot-within (g .load) (g .area) (l .2 .going .steady) b _ (found c), spot-fits (g .load) (g .area) (l .2 .going .steady) b _ (found c))
-
-enum-known-course : tie.Need-enum-known-course Inv-loop3 μ-loop3 Inv-loop2 μ-loop2 Inv-loop μ-loop
-enum-known-course c = search needs
 
 sub-lay : tie.Need-sub-lay Inv-loop3 μ-loop3 Inv-loop2 μ-loop2 Inv-loop μ-loop
 sub-lay c =
@@ -541,12 +471,6 @@ loop2-again-6 : tie.Need-loop2-again-6 Inv-loop3 μ-loop3 Inv-loop2 μ-loop2 Inv
 loop2-again-6 c =
     fails (c .before .before .before .before) _ _ _ _ (turn (c .before .before .before .before) .fails _ (c .before .course5 .given .1))
 
-settled-requires : tie.Need-settled-requires Inv-loop3 μ-loop3 Inv-loop2 μ-loop2 Inv-loop μ-loop
-settled-requires c κs = search needs
-
-held-as-requires : tie.Need-held-as-requires Inv-loop3 μ-loop3 Inv-loop2 μ-loop2 Inv-loop μ-loop
-held-as-requires c κs = search needs
-
 locked-as-requires :
     tie.Need-locked-as-requires Inv-loop3 μ-loop3 Inv-loop2 μ-loop2 Inv-loop μ-loop
 locked-as-requires c κs = search needs
@@ -572,31 +496,13 @@ lived-requires c κs =
       span-other _ _ _ _ _ (length (dat s)) _ (s .span .ensures) z (λ h m. command-data (byteAt (rec s) 0) (byteAt (rec s) 1) (dat s) k (s .before .before .before .before .before .before .before .before .before .loop .area) h m) (c .before .before .before .if3 .taken),
     )
 
-shut-as-requires : tie.Need-shut-as-requires Inv-loop3 μ-loop3 Inv-loop2 μ-loop2 Inv-loop μ-loop
-shut-as-requires c κs = search needs
-
 held-as-requires-2 :
     tie.Need-held-as-requires-2 Inv-loop3 μ-loop3 Inv-loop2 μ-loop2 Inv-loop μ-loop
 held-as-requires-2 c κs = search needs
 
-add-count : tie.Need-add-count Inv-loop3 μ-loop3 Inv-loop2 μ-loop2 Inv-loop μ-loop
-add-count c = search needs
-
-mul-put-line : tie.Need-mul-put-line Inv-loop3 μ-loop3 Inv-loop2 μ-loop2 Inv-loop μ-loop
-mul-put-line c = search needs
-
 shared-slice-read-put-line :
     tie.Need-shared-slice-read-put-line Inv-loop3 μ-loop3 Inv-loop2 μ-loop2 Inv-loop μ-loop
 shared-slice-read-put-line c = search needs
-
-put-line-requires : tie.Need-put-line-requires Inv-loop3 μ-loop3 Inv-loop2 μ-loop2 Inv-loop μ-loop
-put-line-requires c κs = search needs
-
-add-i : tie.Need-add-i Inv-loop3 μ-loop3 Inv-loop2 μ-loop2 Inv-loop μ-loop
-add-i c = search needs
-
-loop-less : tie.Need-loop-less Inv-loop3 μ-loop3 Inv-loop2 μ-loop2 Inv-loop μ-loop
-loop-less c = search needs
 
 loop-again : tie.Need-loop-again Inv-loop3 μ-loop3 Inv-loop2 μ-loop2 Inv-loop μ-loop
 loop-again c =
@@ -617,9 +523,6 @@ same-length c =
     let p = c .before .before .before .before .before .before .before .before .pre in
     enters-good _ _ _ _ _ _ (p .0) (c .before .loop .inv .0) .area ∙ sym (p .0 .area)
 
-same-length-2 : tie.Need-same-length-2 Inv-loop3 μ-loop3 Inv-loop2 μ-loop2 Inv-loop μ-loop
-same-length-2 c = search needs
-
 returns : tie.Need-returns Inv-loop3 μ-loop3 Inv-loop2 μ-loop2 Inv-loop μ-loop
 returns c =
     let g = c .before .loop in
@@ -630,92 +533,17 @@ returns c =
 pub enter-all-spec : {M : Type 1} → statement M
 enter-all-spec =
     tie.close
-    (tie.spec
-    Inv-loop3
-    μ-loop3
-    Inv-loop2
-    μ-loop2
-    Inv-loop
-    μ-loop
-    loop-holds
-    mul-from
-    add-r
-    sub-r
-    part-r-start
-    part-r-end
-    fault-in-requires
-    shared-slice-read-p1
-    shared-slice-read-wide
-    wide-requires
-    add-stop
-    sub-d
-    part-d-start
-    part-d-end
-    shared-slice-read-span
-    span-requires
-    loop2-holds
-    wanted-requires
-    cast-sfi
-    cast-nn
-    scan-from-requires
-    loop3-holds
-    mul-f
-    element-copy-out-f
-    spot-in-requires
-    loop3-less
-    loop3-again
-    size-of-requires
-    add-base
-    add-j
-    loop3-less-2
-    loop3-again-2
-    step-at-requires
-    enum-known-course
-    sub-lay
-    part-lay-start
-    part-lay-end
-    sub-lay-2
-    part-lay-start-2
-    part-lay-end-2
-    lay-requires
-    loop2-less
-    loop2-again
-    enum-known-course-2
-    sub-kept-as
-    part-kept-as-start
-    part-kept-as-end
-    kept-as-requires
-    loop2-less-2
-    loop2-again-2
-    enum-known-course-3
-    table-fed-requires
-    enum-known-verdict
-    loop2-less-3
-    loop2-again-3
-    enum-known-verdict-2
-    loop2-less-4
-    loop2-again-4
-    enum-known-course-4
-    loop2-less-5
-    loop2-again-5
-    enum-known-course-5
-    loop2-less-6
-    loop2-again-6
-    settled-requires
-    held-as-requires
-    locked-as-requires
-    slice-aggregate-lived
-    shared-slice-read-lived
-    lived-requires
-    shut-as-requires
-    held-as-requires-2
-    add-count
-    mul-put-line
-    shared-slice-read-put-line
-    put-line-requires
-    add-i
-    loop-less
-    loop-again
-    same-length
-    same-length-2
-    returns)
+    (tie.spec Inv-loop3 μ-loop3 Inv-loop2 μ-loop2 Inv-loop μ-loop loop-holds (search needs) (search needs)
+    (search needs) (search needs) (search needs) (search needs) shared-slice-read-p1 shared-slice-read-wide
+    (search needs) (search needs) (search needs) (search needs) (search needs) shared-slice-read-span
+    (search needs) loop2-holds wanted-requires (search needs) (search needs) scan-from-requires loop3-holds
+    mul-f element-copy-out-f spot-in-requires loop3-less loop3-again (search needs) add-base add-j
+    loop3-less-2 loop3-again-2 step-at-requires (search needs) sub-lay part-lay-start part-lay-end sub-lay-2
+    part-lay-start-2 part-lay-end-2 lay-requires loop2-less loop2-again enum-known-course-2 sub-kept-as
+    part-kept-as-start part-kept-as-end kept-as-requires loop2-less-2 loop2-again-2 enum-known-course-3
+    table-fed-requires enum-known-verdict loop2-less-3 loop2-again-3 enum-known-verdict-2 loop2-less-4
+    loop2-again-4 enum-known-course-4 loop2-less-5 loop2-again-5 enum-known-course-5 loop2-less-6
+    loop2-again-6 (search needs) (search needs) locked-as-requires slice-aggregate-lived
+    shared-slice-read-lived lived-requires (search needs) held-as-requires-2 (search needs) (search needs)
+    shared-slice-read-put-line (search needs) (search needs) (search needs) loop-again same-length
+    (search needs) returns)

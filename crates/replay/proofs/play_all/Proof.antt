@@ -14,83 +14,11 @@ Inv-loop area₀ fd label block₀ lines₀ last₀ noted₀ turns₀ area block
 abbrev μ-loop : tie.MeasureT-loop
 μ-loop area₀ fd label block₀ lines₀ last₀ noted₀ turns₀ area block lines last noted turns = turns
 
-block-buffer-requires : tie.Need-block-buffer-requires Inv-loop μ-loop
-block-buffer-requires c κs = search needs
-
-line-buffer-requires : tie.Need-line-buffer-requires Inv-loop μ-loop
-line-buffer-requires c κs = search needs
-
-loop-holds : tie.Need-loop-holds Inv-loop μ-loop
-loop-holds c = search needs
-
-slice-aggregate-read-labelled : tie.Need-slice-aggregate-read-labelled Inv-loop μ-loop
-slice-aggregate-read-labelled c = search needs
-
-read-labelled-requires : tie.Need-read-labelled-requires Inv-loop μ-loop
-read-labelled-requires c κs = search needs
-
-failed-requires : tie.Need-failed-requires Inv-loop μ-loop
-failed-requires c κs = search needs
-
-same-length : tie.Need-same-length Inv-loop μ-loop
-same-length c = search needs
-
-returns : tie.Need-returns Inv-loop μ-loop
-returns c = search needs
-
-array-share-prefix-block : tie.Need-array-share-prefix-block Inv-loop μ-loop
-array-share-prefix-block c = search needs
-
-slice-aggregate-enter-all : tie.Need-slice-aggregate-enter-all Inv-loop μ-loop
-slice-aggregate-enter-all c = search needs
-
-slice-aggregate-enter-all-2 : tie.Need-slice-aggregate-enter-all-2 Inv-loop μ-loop
-slice-aggregate-enter-all-2 c = search needs
-
-enter-all-requires : tie.Need-enter-all-requires Inv-loop μ-loop
-enter-all-requires c κs = search needs
-
-array-share-prefix-block-2 : tie.Need-array-share-prefix-block-2 Inv-loop μ-loop
-array-share-prefix-block-2 c = search needs
-
-slice-aggregate-note-all : tie.Need-slice-aggregate-note-all Inv-loop μ-loop
-slice-aggregate-note-all c = search needs
-
-slice-aggregate-note-all-2 : tie.Need-slice-aggregate-note-all-2 Inv-loop μ-loop
-slice-aggregate-note-all-2 c = search needs
-
-note-all-requires : tie.Need-note-all-requires Inv-loop μ-loop
-note-all-requires c κs = search needs
-
-slice-aggregate-print-lines : tie.Need-slice-aggregate-print-lines Inv-loop μ-loop
-slice-aggregate-print-lines c = search needs
-
-print-lines-requires : tie.Need-print-lines-requires Inv-loop μ-loop
-print-lines-requires c κs = search needs
-
-failed-requires-2 : tie.Need-failed-requires-2 Inv-loop μ-loop
-failed-requires-2 c κs = search needs
-
 same-length-2 : tie.Need-same-length-2 Inv-loop μ-loop
 same-length-2 c = c .before .before .before .before .before .before .before .before .before .before .enter-all .kept .1 .0 ∙ c .before .before .before .before .before .before .before .before .before .before .before .before .before .before .before .before .before .before .before .before .loop .inv .2
 
-returns-2 : tie.Need-returns-2 Inv-loop μ-loop
-returns-2 c = search needs
-
-note-end-requires : tie.Need-note-end-requires Inv-loop μ-loop
-note-end-requires c κs = search needs
-
 same-length-3 : tie.Need-same-length-3 Inv-loop μ-loop
 same-length-3 c = c .before .before .before .before .before .before .before .before .before .before .before .enter-all .kept .1 .0 ∙ c .before .before .before .before .before .before .before .before .before .before .before .before .before .before .before .before .before .before .before .before .before .loop .inv .2
-
-returns-3 : tie.Need-returns-3 Inv-loop μ-loop
-returns-3 c = search needs
-
-sub-turns : tie.Need-sub-turns Inv-loop μ-loop
-sub-turns c = search needs
-
-loop-less : tie.Need-loop-less Inv-loop μ-loop
-loop-less c = search needs
 
 loop-again : tie.Need-loop-again Inv-loop μ-loop
 loop-again c =
@@ -99,48 +27,13 @@ loop-again c =
     let l = c .before .before .before .before .before .before .before .before .before .before .before .before .before .before .before .before .before .before .before .before .loop in
     (e .ensures .0, e .ensures .1, e .kept .1 .0 ∙ l .inv .2, r .kept .1 .1 .0 ∙ l .inv .3, e .kept .1 .1 .1 .1 .0 ∙ l .inv .4)
 
-failed-requires-3 : tie.Need-failed-requires-3 Inv-loop μ-loop
-failed-requires-3 c κs = search needs
-
-same-length-4 : tie.Need-same-length-4 Inv-loop μ-loop
-same-length-4 c = search needs
-
-returns-4 : tie.Need-returns-4 Inv-loop μ-loop
-returns-4 c = search needs
-
 pub play-all-spec : {M : Type 1} → statement M
 play-all-spec =
     tie.close
-    (tie.spec
-    Inv-loop
-    μ-loop
-    block-buffer-requires
-    line-buffer-requires
-    loop-holds
-    slice-aggregate-read-labelled
-    read-labelled-requires
-    failed-requires
-    same-length
-    returns
-    array-share-prefix-block
-    slice-aggregate-enter-all
-    slice-aggregate-enter-all-2
-    enter-all-requires
-    array-share-prefix-block-2
-    slice-aggregate-note-all
-    slice-aggregate-note-all-2
-    note-all-requires
-    slice-aggregate-print-lines
-    print-lines-requires
-    failed-requires-2
-    same-length-2
-    returns-2
-    note-end-requires
-    same-length-3
-    returns-3
-    sub-turns
-    loop-less
-    loop-again
-    failed-requires-3
-    same-length-4
-    returns-4)
+    (tie.spec Inv-loop μ-loop (λ c κs. search needs) (λ c κs. search needs) (λ c. search needs)
+    (λ c. search needs) (λ c κs. search needs) (λ c κs. search needs) (λ c. search needs)
+    (λ c. search needs) (λ c. search needs) (λ c. search needs) (λ c. search needs) (λ c κs. search needs)
+    (λ c. search needs) (λ c. search needs) (λ c. search needs) (λ c κs. search needs) (λ c. search needs)
+    (λ c κs. search needs) (λ c κs. search needs) same-length-2 (λ c. search needs) (λ c κs. search needs)
+    same-length-3 (λ c. search needs) (λ c. search needs) (λ c. search needs) loop-again
+    (λ c κs. search needs) (λ c. search needs) (λ c. search needs))

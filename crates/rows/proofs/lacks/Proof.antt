@@ -3,18 +3,6 @@ use Rattle.rows.specs.Lacking.{lacking}
 use Rattle.rows.proofs.lacks.Statement.{statement}
 use Rattle.rows.proofs.lacks.Tie as tie
 
-add-row-at : tie.Need-add-row-at
-add-row-at c = search needs
-
-row-at-requires : tie.Need-row-at-requires
-row-at-requires c κs = search needs
-
-add-is-taken : tie.Need-add-is-taken
-add-is-taken c = search needs
-
-is-taken-requires : tie.Need-is-taken-requires
-is-taken-requires c κs = search needs
-
 returns : tie.Need-returns
 unfolding lacking
 returns c =
@@ -32,11 +20,4 @@ returns-3 c = simp (← c .before .row-at .ensures, c .if1 .left)
 pub lacks-spec : {M : Type 1} → statement M
 lacks-spec =
     tie.close
-    (tie.spec
-    add-row-at
-    row-at-requires
-    add-is-taken
-    is-taken-requires
-    returns
-    returns-2
-    returns-3)
+    (tie.spec (search needs) (search needs) (search needs) (search needs) returns returns-2 returns-3)

@@ -14,23 +14,11 @@ Inv-loop rows n k₀ k = (k ≤ n) × (missingFrom rows 1 (take n rowTable) ≡ 
 abbrev μ-loop : tie.MeasureT-loop
 μ-loop rows n k₀ k = n - k
 
-loop-holds : tie.Need-loop-holds Inv-loop μ-loop
-loop-holds c = search needs
-
-lacks-requires : tie.Need-lacks-requires Inv-loop μ-loop
-lacks-requires c κs = search needs
-
 returns : tie.Need-returns Inv-loop μ-loop
 returns c =
     let l = c .before .before .before .loop in
     let a = c .before .before .before .before .args in
     sym (l .inv .1 ∙ missing-step (a .rows) (a .n) (omega arith) (l .k) (omega arith) ∙ simp (← c .before .lacks .ensures, c .if1 .taken))
-
-add-k : tie.Need-add-k Inv-loop μ-loop
-add-k c = search needs
-
-loop-less : tie.Need-loop-less Inv-loop μ-loop
-loop-less c = search needs
 
 loop-again : tie.Need-loop-again Inv-loop μ-loop
 loop-again c =
@@ -46,13 +34,5 @@ returns-2 c =
 pub missing-before-spec : {M : Type 1} → statement M
 missing-before-spec =
     tie.close
-    (tie.spec
-    Inv-loop
-    μ-loop
-    loop-holds
-    lacks-requires
-    returns
-    add-k
-    loop-less
-    loop-again
+    (tie.spec Inv-loop μ-loop (search needs) (search needs) returns (search needs) (search needs) loop-again
     returns-2)

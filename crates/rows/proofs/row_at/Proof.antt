@@ -21,15 +21,9 @@ pub row-at-spec : {M : Type 1} → statement M
 unfolding rowAt rowTable
 row-at-spec =
     tie.close
-    (tie.spec
-    (λ c. sym (ap rowAt (c .match .keys1)))
-    (λ c. sym (ap rowAt (c .match .keys2)))
-    (λ c. sym (ap rowAt (c .match .keys3)))
-    (λ c. sym (ap rowAt (c .match .keys4)))
-    (λ c. sym (ap rowAt (c .match .keys5)))
-    (λ c. sym (ap rowAt (c .match .keys6)))
-    (λ c. sym (ap rowAt (c .match .keys7)))
-    (λ c. sym (ap rowAt (c .match .keys8)))
-    (λ c. sym (ap rowAt (c .match .keys9)))
-    (λ c. sym (ap rowAt (c .match .keys10)))
+    (tie.spec (λ c. sym (ap rowAt (c .match .keys1))) (λ c. sym (ap rowAt (c .match .keys2)))
+    (λ c. sym (ap rowAt (c .match .keys3))) (λ c. sym (ap rowAt (c .match .keys4)))
+    (λ c. sym (ap rowAt (c .match .keys5))) (λ c. sym (ap rowAt (c .match .keys6)))
+    (λ c. sym (ap rowAt (c .match .keys7))) (λ c. sym (ap rowAt (c .match .keys8)))
+    (λ c. sym (ap rowAt (c .match .keys9))) (λ c. sym (ap rowAt (c .match .keys10)))
     (λ c. sym (ap rowAt (last-row c))))

@@ -38,8 +38,7 @@ pub row-of-spec : {M : Type 1} → statement M
 unfolding rowOf rowFrom rowTable
 row-of-spec =
     tie.close
-    (tie.spec
-    (λ c. (sym (ap rowOf (c .match .keys1)), omega arith))
+    (tie.spec (λ c. (sym (ap rowOf (c .match .keys1)), omega arith))
     (λ c. (sym (ap rowOf (c .match .keys2)), omega arith))
     (λ c. (sym (ap rowOf (c .match .keys3)), omega arith))
     (λ c. (sym (ap rowOf (c .match .keys4)), omega arith))
@@ -48,7 +47,4 @@ row-of-spec =
     (λ c. (sym (ap rowOf (c .match .keys7)), omega arith))
     (λ c. (sym (ap rowOf (c .match .keys8)), omega arith))
     (λ c. (sym (ap rowOf (c .match .keys9)), omega arith))
-    (λ c. (sym (ap rowOf (c .match .keys10)), omega arith))
-    returns-11
-    returns-12
-    returns-13)
+    (λ c. (sym (ap rowOf (c .match .keys10)), omega arith)) returns-11 returns-12 returns-13)

@@ -1,39 +1,19 @@
-use Prim.Native.Nat.{ℕ, suc, _+_, _*_, _-_, _≤_, _<_, _/_, _%_}
-use mathlib.Core.Path.{_≡_, refl, ap, sym, _∙_}
-use mathlib.Core.List.{List, [], _∷_, _++_}
-use native.Mathlib.Omega.{arith}
-use native.Mathlib.Numerals.{add-one}
-use lib.ListN.{length, take, drop, set, getD, length-set, length-take, length-drop, length-append}
+use Prim.Native.Nat.{_-_}
+use mathlib.Core.Path.{sym, _∙_}
+use lib.ListN.{drop}
 use denote.Ref.{now}
 use borrow.Author.Needs.{needs}
 use Rattle.rules.proofs.from_e.Statement.{statement}
 use Rattle.rules.proofs.from_e.Tie as tie
-use Rattle.rules.proofs.from_e.Reads as reads
-use Rattle.rules.proofs.from_e.Lts as lts
-use Rattle.rules.proofs.room_of.Reads as room-of-reads
-use Rattle.steps.proofs.failed_by.Reads as failed-by-reads
-use Rattle.values.proofs.from_f.Reads as from-f-reads
-use Rattle.steps.specs.Steps.{on, Judges, Roomed}
+use Rattle.steps.specs.Steps.{on}
 use Rattle.steps.proofs.Chains.{e-passes, e-refuses}
 use Rattle.rules.proofs.Facts.{room-within, room-most, roomed, unplaced}
-
-room-of-requires : tie.Need-room-of-requires
-room-of-requires c κs = search needs
-
-enum-known-room : tie.Need-enum-known-room
-enum-known-room c = search needs
 
 from-f-requires : tie.Need-from-f-requires
 from-f-requires c κs =
     let s = c .before .before .before .before .before in
     let e = sym (c .before .before .before .room-of .ensures) ∙ c .before .room .given .1 in
     (s .pre .0, s .pre .1, room-within _ _ _ _ e (s .pre .0) (s .pre .1) (s .pre .2), room-most _ _ _ _ e, s .pre .3, s .pre .4)
-
-enum-told : tie.Need-enum-told
-enum-told c = search needs
-
-failed-by-requires : tie.Need-failed-by-requires
-failed-by-requires c κs = search needs
 
 returns : tie.Need-returns
 returns c =
@@ -51,11 +31,4 @@ returns-2 c =
 pub from-e-spec : {M : Type 1} → statement M
 from-e-spec =
     tie.close
-    (tie.spec
-    room-of-requires
-    enum-known-room
-    from-f-requires
-    enum-told
-    failed-by-requires
-    returns
-    returns-2)
+    (tie.spec (search needs) (search needs) from-f-requires (search needs) (search needs) returns returns-2)

@@ -23,9 +23,6 @@ returns : tie.Need-returns
 unfolding invalidated
 returns c = search cases
 
-array-copy-out-df : tie.Need-array-copy-out-df
-array-copy-out-df c = search needs
-
 returns-2 : tie.Need-returns-2
 unfolding invalidated
 returns-2 c =
@@ -33,4 +30,4 @@ returns-2 c =
     rw (df-status (a .loading .files), lt-ltb 0 (a .loading .count) (omega arith))
 
 pub is-invalidated-spec : {M : Type 1} → statement M
-is-invalidated-spec = tie.close (tie.spec returns array-copy-out-df returns-2)
+is-invalidated-spec = tie.close (tie.spec returns (search needs) returns-2)

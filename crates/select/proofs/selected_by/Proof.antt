@@ -9,15 +9,6 @@ returns : tie.Need-returns
 unfolding select
 returns c = λ a. rw (ne-eqb _ 0x07 (c .if1 .taken)) (said _ _ a _)
 
-is-named-requires : tie.Need-is-named-requires
-is-named-requires c κs = search needs
-
-lay-name-fci-requires : tie.Need-lay-name-fci-requires
-lay-name-fci-requires c κs = search needs
-
-same-length : tie.Need-same-length
-same-length c = search needs
-
 returns-2 : tie.Need-returns-2
 unfolding select isName
 returns-2 c =
@@ -27,15 +18,6 @@ returns-2 c =
     let one = two .before .before in
     λ a. simp (eq-eqb _ 0x07 (one .if1 .left), ← two .before .is-named .ensures, two .if2 .taken, eq-eqb _ 0xCC (three .if3 .taken))
     (gave _ _ _ a (laid .lay-name-fci .ensures .0) (laid .lay-name-fci .ensures .1))
-
-lay-full-fci-requires : tie.Need-lay-full-fci-requires
-lay-full-fci-requires c κs = search needs
-
-is-invalidated-requires : tie.Need-is-invalidated-requires
-is-invalidated-requires c κs = search needs
-
-same-length-2 : tie.Need-same-length-2
-same-length-2 c = search needs
 
 returns-3 : tie.Need-returns-3
 unfolding select isName
@@ -47,9 +29,6 @@ returns-3 c =
     let one = two .before .before in
     λ a. simp (eq-eqb _ 0x07 (one .if1 .left), ← two .before .is-named .ensures, two .if2 .taken, ne-eqb _ 0xCC (three .if3 .left), ← asked .is-invalidated .ensures, c .if4 .taken)
     (gave _ _ _ a (laid .lay-full-fci .ensures .0) (laid .lay-full-fci .ensures .1))
-
-same-length-3 : tie.Need-same-length-3
-same-length-3 c = search needs
 
 returns-4 : tie.Need-returns-4
 unfolding select isName
@@ -71,16 +50,5 @@ returns-5 c =
 pub selected-by-spec : {M : Type 1} → statement M
 selected-by-spec =
     tie.close
-    (tie.spec
-    returns
-    is-named-requires
-    lay-name-fci-requires
-    same-length
-    returns-2
-    lay-full-fci-requires
-    is-invalidated-requires
-    same-length-2
-    returns-3
-    same-length-3
-    returns-4
-    returns-5)
+    (tie.spec returns (search needs) (search needs) (search needs) returns-2 (search needs) (search needs)
+    (search needs) returns-3 (search needs) returns-4 returns-5)

@@ -7,9 +7,6 @@ use Rattle.session.proofs.refusal.Tie as tie
 returns : tie.Need-returns
 returns c = checked-1 _ _ _ _ (c .if1 .taken)
 
-is-sound-requires : tie.Need-is-sound-requires
-is-sound-requires c κs = search needs
-
 returns-2 : tie.Need-returns-2
 returns-2 c =
     let s = c .before .before in
@@ -42,4 +39,4 @@ returns-5 c =
 
 pub refusal-spec : {M : Type 1} → statement M
 refusal-spec =
-    tie.close (tie.spec returns is-sound-requires returns-2 returns-3 returns-4 returns-5)
+    tie.close (tie.spec returns (search needs) returns-2 returns-3 returns-4 returns-5)

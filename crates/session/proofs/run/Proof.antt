@@ -15,9 +15,6 @@ Inv-loop c₀ area₀ session words₀ number k answer₀ i₀ c area words answ
 abbrev μ-loop : tie.MeasureT-loop
 μ-loop c₀ area₀ session words₀ number k answer₀ i₀ c area words answer i = k - i
 
-refusal-requires : tie.Need-refusal-requires Inv-loop μ-loop
-refusal-requires c κs = search needs
-
 loop-holds : tie.Need-loop-holds Inv-loop μ-loop
 loop-holds c =
     let h = c .before .refusal .ensures in
@@ -103,23 +100,6 @@ returns c = all-run _ _ _ _ _ _ _ (c .before .loop .inv) (c .loop-test .left)
 pub run-spec : {M : Type 1} → statement M
 run-spec =
     tie.close
-    (tie.spec
-    Inv-loop
-    μ-loop
-    refusal-requires
-    loop-holds
-    mul-at
-    slice-aggregate-turn
-    add-turn
-    sub-turn
-    part-turn-start
-    part-turn-end
-    turn-requires
-    mul-words
-    slice-write-words
-    add-i
-    loop-less
-    loop-again
-    same-length
-    same-length-2
-    returns)
+    (tie.spec Inv-loop μ-loop (search needs) loop-holds mul-at slice-aggregate-turn add-turn sub-turn
+    part-turn-start part-turn-end turn-requires mul-words slice-write-words add-i loop-less loop-again
+    same-length same-length-2 returns)

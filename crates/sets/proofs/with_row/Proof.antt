@@ -4,25 +4,12 @@ use native.Mathlib.Omega.{arith}
 use borrow.Author.Needs.{needs}
 use Rattle.sets.proofs.Sets.{bit-shifted, bit-fits}
 use Rattle.model.specs.Rows.{withRow, taken}
-use Rattle.model.specs.Rows.{withRow}
 use Rattle.sets.proofs.with_row.Statement.{statement}
 use Rattle.sets.proofs.with_row.Tie as tie
-
-is-taken-requires : tie.Need-is-taken-requires
-is-taken-requires c κs = search needs
 
 returns : tie.Need-returns
 unfolding withRow
 returns c = simp (← c .before .is-taken .ensures, c .if1 .taken)
-
-sub-result : tie.Need-sub-result
-sub-result c = search needs
-
-cast-result : tie.Need-cast-result
-cast-result c = search needs
-
-shl-result : tie.Need-shl-result
-shl-result c = search needs
 
 add-result : tie.Need-add-result
 unfolding taken
@@ -42,4 +29,4 @@ returns-2 c =
 pub with-row-spec : {M : Type 1} → statement M
 with-row-spec =
     tie.close
-    (tie.spec is-taken-requires returns sub-result cast-result shl-result add-result returns-2)
+    (tie.spec (search needs) returns (search needs) (search needs) (search needs) add-result returns-2)

@@ -1,27 +1,17 @@
 use mathlib.Core.Path.{sym, _∙_}
 use native.Mathlib.Omega.{arith}
 use borrow.Author.Needs.{needs}
-use Rattle.showing.proofs.Showing.{part-shown}
-use Rattle.showing.proofs.Showing.{spot-shown, shown-1, shown-6}
+use Rattle.showing.proofs.Showing.{part-shown, spot-shown, shown-1, shown-6}
 use Rattle.soundness.proofs.Opened.{sound-spot}
 use Rattle.soundness.proofs.Parts.{sound-parts}
 use Rattle.showing.proofs.shown.Statement.{statement}
 use Rattle.showing.proofs.shown.Tie as tie
 
-slice-aggregate-result : tie.Need-slice-aggregate-result
-slice-aggregate-result c = search needs
-
 returns : tie.Need-returns
 returns c = shown-1 _ _ _ _ (c .before .if1 .taken)
 
-is-sound-requires : tie.Need-is-sound-requires
-is-sound-requires c κs = search needs
-
 spot-of-requires : tie.Need-spot-of-requires
 spot-of-requires c κs = sound-parts _ _ (sym (c .before .before .before .is-sound .ensures .0) ∙ c .before .before .if2 .taken) .count
-
-enum-known-spot : tie.Need-enum-known-spot
-enum-known-spot c = search needs
 
 add-result : tie.Need-add-result
 add-result c =
@@ -31,12 +21,6 @@ add-result c =
     let args = c .before .before .before .before .before .before .before .before .before .before .args in
     let s = args .c in
     omega (arith, sound-spot (s .life) (s .loading) _ _ _ _ (sym (is-sound .ensures .0) ∙ if2 .taken) (sym (spot-of .ensures) ∙ c .before .spot .given .1))
-
-sub-result : tie.Need-sub-result
-sub-result c = search needs
-
-part-result-start : tie.Need-part-result-start
-part-result-start c = search needs
 
 part-result-end : tie.Need-part-result-end
 part-result-end c =
@@ -56,12 +40,6 @@ returns-2 c =
     let if1 = c .before .before .before .before .before .before .before .before .before .if1 in
     part-shown _ _ _ _ _ _ (if1 .left) (sym (is-sound .ensures .0) ∙ if2 .taken) (sym (spot-of .ensures) ∙ spot .given .1)
 
-enum-told : tie.Need-enum-told
-enum-told c = search needs
-
-slice-aggregate-result-2 : tie.Need-slice-aggregate-result-2
-slice-aggregate-result-2 c = search needs
-
 returns-3 : tie.Need-returns-3
 returns-3 c =
     let spot-of = c .before .before .before .spot-of in
@@ -70,9 +48,6 @@ returns-3 c =
     let if1 = c .before .before .before .before .before .before .before .before .if1 in
     spot-shown _ _ _ _ _ (if1 .left) (sym (is-sound .ensures .0) ∙ if2 .taken) (sym (spot-of .ensures) ∙ c .before .enum-told .given .1)
 
-slice-aggregate-result-3 : tie.Need-slice-aggregate-result-3
-slice-aggregate-result-3 c = search needs
-
 returns-4 : tie.Need-returns-4
 returns-4 c =
     shown-6 _ _ _ _ (c .before .before .before .if1 .left) (sym (c .before .before .is-sound .ensures .0) ∙ c .before .if2 .left)
@@ -80,19 +55,6 @@ returns-4 c =
 pub shown-spec : {M : Type 1} → statement M
 shown-spec =
     tie.close
-    (tie.spec
-    slice-aggregate-result
-    returns
-    is-sound-requires
-    spot-of-requires
-    enum-known-spot
-    add-result
-    sub-result
-    part-result-start
-    part-result-end
-    returns-2
-    enum-told
-    slice-aggregate-result-2
-    returns-3
-    slice-aggregate-result-3
-    returns-4)
+    (tie.spec (search needs) returns (search needs) spot-of-requires (search needs) add-result
+    (search needs) (search needs) part-result-end returns-2 (search needs) (search needs) returns-3
+    (search needs) returns-4)

@@ -5,18 +5,6 @@ use Rattle.lists.specs.Choice.{cases}
 use Rattle.sizes.proofs.size_of.Statement.{statement}
 use Rattle.sizes.proofs.size_of.Tie as tie
 
-wide-requires : tie.Need-wide-requires
-wide-requires c κs = search needs
-
-wide-requires-2 : tie.Need-wide-requires-2
-wide-requires-2 c κs = search needs
-
-mul-result : tie.Need-mul-result
-mul-result c = search needs
-
-add-result : tie.Need-add-result
-add-result c = search needs
-
 returns : tie.Need-returns
 returns c =
     (rw (c .before .before .wide2 .ensures .0, c .before .before .before .wide .ensures .0) (search cases), search needs)
@@ -38,12 +26,5 @@ returns-3 c =
 pub size-of-spec : {M : Type 1} → statement M
 size-of-spec =
     tie.close
-    (tie.spec
-    wide-requires
-    wide-requires-2
-    mul-result
-    add-result
-    returns
-    returns-2
-    mul-result-2
+    (tie.spec (search needs) (search needs) (search needs) (search needs) returns returns-2 mul-result-2
     returns-3)

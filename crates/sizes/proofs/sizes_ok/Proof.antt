@@ -3,9 +3,6 @@ use Rattle.lists.specs.Choice.{cases}
 use Rattle.sizes.proofs.sizes_ok.Statement.{statement}
 use Rattle.sizes.proofs.sizes_ok.Tie as tie
 
-size-of-requires : tie.Need-size-of-requires
-size-of-requires c κs = search needs
-
 returns : tie.Need-returns
 returns c = rw (c .size-of .ensures .0) (search cases)
 
@@ -16,4 +13,4 @@ returns-3 : tie.Need-returns-3
 returns-3 c = search cases
 
 pub sizes-ok-spec : {M : Type 1} → statement M
-sizes-ok-spec = tie.close (tie.spec size-of-requires returns returns-2 returns-3)
+sizes-ok-spec = tie.close (tie.spec (search needs) returns returns-2 returns-3)

@@ -3,11 +3,8 @@ use borrow.Author.Tests.{le-leb}
 use Rattle.sound.proofs.descriptors_ok.Statement.{statement}
 use Rattle.sound.proofs.descriptors_ok.Tie as tie
 
-table-passes-requires : tie.Need-table-passes-requires
-table-passes-requires c κs = search needs
-
 returns : tie.Need-returns
 returns c = rw (c .table-passes .ensures) (simp (le-leb _ _ (c .before .before .pre)))
 
 pub descriptors-ok-spec : {M : Type 1} → statement M
-descriptors-ok-spec = tie.close (tie.spec table-passes-requires returns)
+descriptors-ok-spec = tie.close (tie.spec (search needs) returns)

@@ -5,23 +5,8 @@ use Rattle.opened.proofs.Laws.{count-over, life-fails, load-fails, open-fails, 
 use Rattle.sound.proofs.is_sound.Statement.{statement}
 use Rattle.sound.proofs.is_sound.Tie as tie
 
-places-requires : tie.Need-places-requires
-places-requires c κs = search needs
-
 returns : tie.Need-returns
 returns c = (sym (count-over _ _ (omega arith)), c .before .before .places .ensures .1)
-
-life-ok-requires : tie.Need-life-ok-requires
-life-ok-requires c κs = search needs
-
-load-ok-requires : tie.Need-load-ok-requires
-load-ok-requires c κs = search needs
-
-value-ok-requires : tie.Need-value-ok-requires
-value-ok-requires c κs = search needs
-
-descriptors-ok-requires : tie.Need-descriptors-ok-requires
-descriptors-ok-requires c κs = search needs
 
 returns-2 : tie.Need-returns-2
 returns-2 c =
@@ -57,14 +42,5 @@ returns-5 c =
 pub is-sound-spec : {M : Type 1} → statement M
 is-sound-spec =
     tie.close
-    (tie.spec
-    places-requires
-    returns
-    life-ok-requires
-    load-ok-requires
-    value-ok-requires
-    descriptors-ok-requires
-    returns-2
-    returns-3
-    returns-4
-    returns-5)
+    (tie.spec (search needs) returns (search needs) (search needs) (search needs) (search needs) returns-2
+    returns-3 returns-4 returns-5)

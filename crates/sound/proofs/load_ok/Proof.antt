@@ -2,15 +2,6 @@ use borrow.Author.Needs.{needs}
 use Rattle.sound.proofs.load_ok.Statement.{statement}
 use Rattle.sound.proofs.load_ok.Tie as tie
 
-rows-ok-requires : tie.Need-rows-ok-requires
-rows-ok-requires c κs = search needs
-
-table-placed-requires : tie.Need-table-placed-requires
-table-placed-requires c κs = search needs
-
-secrets-ok-requires : tie.Need-secrets-ok-requires
-secrets-ok-requires c κs = search needs
-
 returns : tie.Need-returns
 returns c =
     let p = c .before .before in
@@ -27,12 +18,4 @@ returns-3 : tie.Need-returns-3
 returns-3 c = simp (← c .before .rows-ok .ensures, c .if1 .left)
 
 pub load-ok-spec : {M : Type 1} → statement M
-load-ok-spec =
-    tie.close
-    (tie.spec
-    rows-ok-requires
-    table-placed-requires
-    secrets-ok-requires
-    returns
-    returns-2
-    returns-3)
+load-ok-spec = tie.close (tie.spec (search needs) (search needs) (search needs) returns returns-2 returns-3)

@@ -14,27 +14,12 @@ Inv-loop secrets i₀ i = (i ≤ 5) × (secretsOk secrets ≡ secretsOk (drop i 
 abbrev μ-loop : tie.MeasureT-loop
 μ-loop secrets i₀ i = 5 - i
 
-loop-holds : tie.Need-loop-holds Inv-loop μ-loop
-loop-holds c = search needs
-
-mul-x : tie.Need-mul-x Inv-loop μ-loop
-mul-x c = search needs
-
-array-copy-out-x : tie.Need-array-copy-out-x Inv-loop μ-loop
-array-copy-out-x c = search needs
-
 returns : tie.Need-returns Inv-loop μ-loop
 returns c =
     let l = c .before .before .before .before .loop in
     let s = c .before .before .before .before .before .args .t1 in
     let fits : l .i < length s = search needs in
     sym (l .inv .1 ∙ secrets-stop s (l .i) fits (c .if1 .taken))
-
-add-i : tie.Need-add-i Inv-loop μ-loop
-add-i c = search needs
-
-loop-less : tie.Need-loop-less Inv-loop μ-loop
-loop-less c = search needs
 
 loop-again : tie.Need-loop-again Inv-loop μ-loop
 loop-again c =
@@ -53,14 +38,5 @@ returns-2 c =
 pub secrets-ok-spec : {M : Type 1} → statement M
 secrets-ok-spec =
     tie.close
-    (tie.spec
-    Inv-loop
-    μ-loop
-    loop-holds
-    mul-x
-    array-copy-out-x
-    returns
-    add-i
-    loop-less
-    loop-again
-    returns-2)
+    (tie.spec Inv-loop μ-loop (search needs) (search needs) (search needs) returns (search needs)
+    (search needs) loop-again returns-2)

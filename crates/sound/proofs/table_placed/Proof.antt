@@ -6,16 +6,10 @@ use Rattle.sound.proofs.table_placed.Tie as tie
 returns : tie.Need-returns
 returns c = rw (eq-eqb _ _ (c .if1 .taken))
 
-is-taken-requires : tie.Need-is-taken-requires
-is-taken-requires c κs = search needs
-
 returns-2 : tie.Need-returns-2
 returns-2 c =
     let n = ne-eqb _ _ (c .before .before .if1 .left) in
     simp (n, ← c .before .is-taken .ensures, c .if2 .taken)
-
-table-open-requires : tie.Need-table-open-requires
-table-open-requires c κs = search needs
 
 returns-3 : tie.Need-returns-3
 returns-3 c =
@@ -40,11 +34,4 @@ returns-5 c =
 pub table-placed-spec : {M : Type 1} → statement M
 table-placed-spec =
     tie.close
-    (tie.spec
-    returns
-    is-taken-requires
-    returns-2
-    table-open-requires
-    returns-3
-    returns-4
-    returns-5)
+    (tie.spec returns (search needs) returns-2 (search needs) returns-3 returns-4 returns-5)

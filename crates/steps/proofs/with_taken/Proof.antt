@@ -2,11 +2,8 @@ use borrow.Author.Needs.{needs}
 use Rattle.steps.proofs.with_taken.Statement.{statement}
 use Rattle.steps.proofs.with_taken.Tie as tie
 
-with-row-requires : tie.Need-with-row-requires
-with-row-requires c κs = search needs
-
 returns : tie.Need-returns
 returns c = rw (c .with-row .ensures)
 
 pub with-taken-spec : {M : Type 1} → statement M
-with-taken-spec = tie.close (tie.spec with-row-requires returns)
+with-taken-spec = tie.close (tie.spec (search needs) returns)

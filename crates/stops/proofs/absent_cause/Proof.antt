@@ -2,12 +2,6 @@ use borrow.Author.Needs.{needs}
 use Rattle.stops.proofs.absent_cause.Statement.{statement}
 use Rattle.stops.proofs.absent_cause.Tie as tie
 
-cast-is-listed : tie.Need-cast-is-listed
-cast-is-listed c = search needs
-
-is-listed-requires : tie.Need-is-listed-requires
-is-listed-requires c κs = search needs
-
 returns : tie.Need-returns
 returns c = simp (← c .before .is-listed .ensures, c .if1 .taken)
 
@@ -15,4 +9,4 @@ returns-2 : tie.Need-returns-2
 returns-2 c = simp (← c .before .is-listed .ensures, c .if1 .left)
 
 pub absent-cause-spec : {M : Type 1} → statement M
-absent-cause-spec = tie.close (tie.spec cast-is-listed is-listed-requires returns returns-2)
+absent-cause-spec = tie.close (tie.spec (search needs) (search needs) returns returns-2)

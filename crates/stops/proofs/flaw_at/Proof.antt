@@ -13,36 +13,9 @@ use Rattle.stops.proofs.Stops.{part-laid}
 use Rattle.stops.proofs.flaw_at.Statement.{statement}
 use Rattle.stops.proofs.flaw_at.Tie as tie
 
-add-if1 : tie.Need-add-if1
-add-if1 c = search needs
-
 returns : tie.Need-returns
 unfolding flawAt
 returns c = rw (lt-ltb _ _ (c .if1 .taken))
-
-slice-aggregate-lay : tie.Need-slice-aggregate-lay
-slice-aggregate-lay c = search needs
-
-add-lay : tie.Need-add-lay
-add-lay c = search needs
-
-sub-lay : tie.Need-sub-lay
-sub-lay c = search needs
-
-part-lay-start : tie.Need-part-lay-start
-part-lay-start c = search needs
-
-part-lay-end : tie.Need-part-lay-end
-part-lay-end c = search needs
-
-lay-requires : tie.Need-lay-requires
-lay-requires c κs = search needs
-
-descriptor-of-requires : tie.Need-descriptor-of-requires
-descriptor-of-requires c κs = search needs
-
-flaw-of-requires : tie.Need-flaw-of-requires
-flaw-of-requires c κs = search needs
 
 returns-2 : tie.Need-returns-2
 unfolding flawAt
@@ -55,15 +28,5 @@ returns-2 c =
 pub flaw-at-spec : {M : Type 1} → statement M
 flaw-at-spec =
     tie.close
-    (tie.spec
-    add-if1
-    returns
-    slice-aggregate-lay
-    add-lay
-    sub-lay
-    part-lay-start
-    part-lay-end
-    lay-requires
-    descriptor-of-requires
-    flaw-of-requires
-    returns-2)
+    (tie.spec (search needs) returns (search needs) (search needs) (search needs) (search needs)
+    (search needs) (search needs) (search needs) (search needs) returns-2)

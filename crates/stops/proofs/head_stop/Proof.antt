@@ -5,21 +5,9 @@ use Rattle.stops.specs.Stops.{headStop}
 use Rattle.stops.proofs.head_stop.Statement.{statement}
 use Rattle.stops.proofs.head_stop.Tie as tie
 
-is-query-requires : tie.Need-is-query-requires
-is-query-requires c κs = search needs
-
-stop-as-requires : tie.Need-stop-as-requires
-stop-as-requires c κs = search needs
-
 returns : tie.Need-returns
 unfolding headStop
 returns c = rw (c .stop-as .ensures, sym (c .before .before .is-query .ensures) ∙ c .before .if1 .taken)
-
-row-of-requires : tie.Need-row-of-requires
-row-of-requires c κs = search needs
-
-stop-as-requires-2 : tie.Need-stop-as-requires-2
-stop-as-requires-2 c κs = search needs
 
 returns-2 : tie.Need-returns-2
 unfolding headStop
@@ -27,23 +15,11 @@ returns-2 c =
     let r = c .before .before .row-of .ensures .0 in
     rw (c .stop-as2 .ensures, sym (c .before .before .before .before .is-query .ensures) ∙ c .before .before .before .if1 .left, ← r, eq-eqb _ _ (c .before .if2 .taken))
 
-is-due-requires : tie.Need-is-due-requires
-is-due-requires c κs = search needs
-
-room-stop-requires : tie.Need-room-stop-requires
-room-stop-requires c κs = search needs
-
 returns-3 : tie.Need-returns-3
 unfolding headStop
 returns-3 c =
     let r = c .before .before .before .before .row-of .ensures .0 in
     rw (c .room-stop .ensures, sym (c .before .before .before .before .before .before .is-query .ensures) ∙ c .before .before .before .before .before .if1 .left, ← r, ne-eqb _ _ (c .before .before .before .if2 .left), sym (c .before .before .is-due .ensures) ∙ c .before .if3 .taken)
-
-undue-cause-requires : tie.Need-undue-cause-requires
-undue-cause-requires c κs = search needs
-
-stop-as-requires-3 : tie.Need-stop-as-requires-3
-stop-as-requires-3 c κs = search needs
 
 returns-4 : tie.Need-returns-4
 unfolding headStop
@@ -54,16 +30,5 @@ returns-4 c =
 pub head-stop-spec : {M : Type 1} → statement M
 head-stop-spec =
     tie.close
-    (tie.spec
-    is-query-requires
-    stop-as-requires
-    returns
-    row-of-requires
-    stop-as-requires-2
-    returns-2
-    is-due-requires
-    room-stop-requires
-    returns-3
-    undue-cause-requires
-    stop-as-requires-3
-    returns-4)
+    (tie.spec (search needs) (search needs) returns (search needs) (search needs) returns-2 (search needs)
+    (search needs) returns-3 (search needs) (search needs) returns-4)

@@ -16,19 +16,10 @@ abbrev μ-loop : tie.MeasureT-loop
 loop-holds : tie.Need-loop-holds Inv-loop μ-loop
 loop-holds c = (refl, omega arith, omega arith)
 
-missing-before-requires : tie.Need-missing-before-requires Inv-loop μ-loop
-missing-before-requires c κs = search needs
-
 returns : tie.Need-returns Inv-loop μ-loop
 returns c =
     let l = c .before .before .before .loop in
     sym (l .inv .0 ∙ row-found _ (l .n) (omega arith) (sym (c .before .missing-before .ensures) ∙ c .if1 .taken))
-
-add-n : tie.Need-add-n Inv-loop μ-loop
-add-n c = search needs
-
-loop-less : tie.Need-loop-less Inv-loop μ-loop
-loop-less c = search needs
 
 loop-again : tie.Need-loop-again Inv-loop μ-loop
 loop-again c =
@@ -43,13 +34,5 @@ returns-2 c =
 pub missing-row-spec : {M : Type 1} → statement M
 missing-row-spec =
     tie.close
-    (tie.spec
-    Inv-loop
-    μ-loop
-    loop-holds
-    missing-before-requires
-    returns
-    add-n
-    loop-less
-    loop-again
+    (tie.spec Inv-loop μ-loop loop-holds (search needs) returns (search needs) (search needs) loop-again
     returns-2)

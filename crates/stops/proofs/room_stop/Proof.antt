@@ -6,27 +6,6 @@ use Rattle.stops.proofs.Stops.{room-so}
 use Rattle.stops.proofs.room_stop.Statement.{statement}
 use Rattle.stops.proofs.room_stop.Tie as tie
 
-spot-at-requires : tie.Need-spot-at-requires
-spot-at-requires c κs = search needs
-
-room-of-requires : tie.Need-room-of-requires
-room-of-requires c κs = search needs
-
-enum-known-room : tie.Need-enum-known-room
-enum-known-room c = search needs
-
-length-stop-requires : tie.Need-length-stop-requires
-length-stop-requires c κs = search needs
-
-enum-told : tie.Need-enum-told
-enum-told c = search needs
-
-absent-cause-requires : tie.Need-absent-cause-requires
-absent-cause-requires c κs = search needs
-
-stop-as-requires : tie.Need-stop-as-requires
-stop-as-requires c κs = search needs
-
 returns : tie.Need-returns
 returns c =
     let p = c .before .before .before .before in
@@ -44,13 +23,5 @@ returns-2 c =
 pub room-stop-spec : {M : Type 1} → statement M
 room-stop-spec =
     tie.close
-    (tie.spec
-    spot-at-requires
-    room-of-requires
-    enum-known-room
-    length-stop-requires
-    enum-told
-    absent-cause-requires
-    stop-as-requires
-    returns
-    returns-2)
+    (tie.spec (search needs) (search needs) (search needs) (search needs) (search needs) (search needs)
+    (search needs) returns returns-2)

@@ -7,23 +7,11 @@ use Rattle.stops.specs.Stops.{stopOf}
 use Rattle.stops.proofs.stop_at.Statement.{statement}
 use Rattle.stops.proofs.stop_at.Tie as tie
 
-header-at-requires : tie.Need-header-at-requires
-header-at-requires c κs = search needs
-
-enum-known-header : tie.Need-enum-known-header
-enum-known-header c = search needs
-
 head-stop-requires : tie.Need-head-stop-requires
 head-stop-requires c κs =
     let s = c .before .before .before .before .before in
     let e = sym (c .before .before .before .header-at .ensures) ∙ c .before .header .given .1 in
     (s .pre .0, s .pre .1, header-within (now (s .args .d)) (s .args .at) _ (omega arith) e, s .pre .3)
-
-enum-told : tie.Need-enum-told
-enum-told c = search needs
-
-torn-stop-requires : tie.Need-torn-stop-requires
-torn-stop-requires c κs = search needs
 
 returns : tie.Need-returns
 unfolding stopOf
@@ -40,11 +28,5 @@ returns-2 c =
 pub stop-at-spec : {M : Type 1} → statement M
 stop-at-spec =
     tie.close
-    (tie.spec
-    header-at-requires
-    enum-known-header
-    head-stop-requires
-    enum-told
-    torn-stop-requires
-    returns
+    (tie.spec (search needs) (search needs) head-stop-requires (search needs) (search needs) returns
     returns-2)

@@ -6,33 +6,6 @@ use Rattle.stops.specs.Stops.{tableStop}
 use Rattle.stops.proofs.table_stop.Statement.{statement}
 use Rattle.stops.proofs.table_stop.Tie as tie
 
-mul-start : tie.Need-mul-start
-mul-start c = search needs
-
-add-start : tie.Need-add-start
-add-start c = search needs
-
-sub-flaw-at : tie.Need-sub-flaw-at
-sub-flaw-at c = search needs
-
-part-flaw-at-start : tie.Need-part-flaw-at-start
-part-flaw-at-start c = search needs
-
-part-flaw-at-end : tie.Need-part-flaw-at-end
-part-flaw-at-end c = search needs
-
-flaw-at-requires : tie.Need-flaw-at-requires
-flaw-at-requires c κs = search needs
-
-sub-t8 : tie.Need-sub-t8
-sub-t8 c = search needs
-
-add-t12 : tie.Need-add-t12
-add-t12 c = search needs
-
-add-t13 : tie.Need-add-t13
-add-t13 c = search needs
-
 returns : tie.Need-returns
 unfolding tableStop
 returns c =
@@ -42,14 +15,5 @@ returns c =
 pub table-stop-spec : {M : Type 1} → statement M
 table-stop-spec =
     tie.close
-    (tie.spec
-    mul-start
-    add-start
-    sub-flaw-at
-    part-flaw-at-start
-    part-flaw-at-end
-    flaw-at-requires
-    sub-t8
-    add-t12
-    add-t13
-    returns)
+    (tie.spec (search needs) (search needs) (search needs) (search needs) (search needs) (search needs)
+    (search needs) (search needs) (search needs) returns)

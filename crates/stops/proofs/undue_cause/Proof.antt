@@ -4,15 +4,6 @@ use borrow.Author.Tests.{eq-eqb, ne-eqb}
 use Rattle.stops.proofs.undue_cause.Statement.{statement}
 use Rattle.stops.proofs.undue_cause.Tie as tie
 
-sub-missing-before : tie.Need-sub-missing-before
-sub-missing-before c = search needs
-
-missing-before-requires : tie.Need-missing-before-requires
-missing-before-requires c κs = search needs
-
-missing-row-requires : tie.Need-missing-row-requires
-missing-row-requires c κs = search needs
-
 returns : tie.Need-returns
 returns c =
     rw (c .missing-row .ensures, sym (c .before .before .missing-before .ensures) ∙ c .before .if1 .taken)
@@ -28,10 +19,4 @@ returns-3 c =
 pub undue-cause-spec : {M : Type 1} → statement M
 undue-cause-spec =
     tie.close
-    (tie.spec
-    sub-missing-before
-    missing-before-requires
-    missing-row-requires
-    returns
-    returns-2
-    returns-3)
+    (tie.spec (search needs) (search needs) (search needs) returns returns-2 returns-3)

@@ -4,23 +4,14 @@ use Rattle.stops.specs.Stops.{valueStop}
 use Rattle.stops.proofs.value_stop.Statement.{statement}
 use Rattle.stops.proofs.value_stop.Tie as tie
 
-table-stop-requires : tie.Need-table-stop-requires
-table-stop-requires c κs = search needs
-
 returns : tie.Need-returns
 unfolding valueStop
 returns c = rw (c .table-stop .ensures, eq-eqb _ _ (c .before .if1 .taken))
-
-stop-as-requires : tie.Need-stop-as-requires
-stop-as-requires c κs = search needs
 
 returns-2 : tie.Need-returns-2
 unfolding valueStop
 returns-2 c =
     rw (c .stop-as .ensures, ne-eqb _ _ (c .before .before .if1 .left), eq-eqb _ _ (c .before .if2 .taken))
-
-stop-as-requires-2 : tie.Need-stop-as-requires-2
-stop-as-requires-2 c κs = search needs
 
 returns-3 : tie.Need-returns-3
 unfolding valueStop
@@ -30,4 +21,4 @@ returns-3 c =
 pub value-stop-spec : {M : Type 1} → statement M
 value-stop-spec =
     tie.close
-    (tie.spec table-stop-requires returns stop-as-requires returns-2 stop-as-requires-2 returns-3)
+    (tie.spec (search needs) returns (search needs) returns-2 (search needs) returns-3)

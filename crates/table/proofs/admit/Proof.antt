@@ -6,18 +6,6 @@ use borrow.Author.Tests.{le-leb, lt-leb}
 use Rattle.table.proofs.admit.Statement.{statement}
 use Rattle.table.proofs.admit.Tie as tie
 
-rules-ok-requires : tie.Need-rules-ok-requires
-rules-ok-requires c κs = search needs
-
-total-of-requires : tie.Need-total-of-requires
-total-of-requires c κs = search needs
-
-size-of-requires : tie.Need-size-of-requires
-size-of-requires c κs = search needs
-
-add-if2 : tie.Need-add-if2
-add-if2 c = search needs
-
 returns : tie.Need-returns
 unfolding admitOf
 returns c =
@@ -49,11 +37,4 @@ returns-3 c = simp (← c .before .rules-ok .ensures, c .if1 .left)
 pub admit-spec : {M : Type 1} → statement M
 admit-spec =
     tie.close
-    (tie.spec
-    rules-ok-requires
-    total-of-requires
-    size-of-requires
-    add-if2
-    returns
-    returns-2
-    returns-3)
+    (tie.spec (search needs) (search needs) (search needs) (search needs) returns returns-2 returns-3)

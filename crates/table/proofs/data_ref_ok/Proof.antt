@@ -9,9 +9,6 @@ returns c = search cases
 returns-2 : tie.Need-returns-2
 returns-2 c = search cases
 
-counter-among-requires : tie.Need-counter-among-requires
-counter-among-requires c κs = search needs
-
 returns-3 : tie.Need-returns-3
 returns-3 c = rw (c .counter-among .ensures) (search cases)
 
@@ -23,4 +20,4 @@ returns-5 c = search cases
 
 pub data-ref-ok-spec : {M : Type 1} → statement M
 data-ref-ok-spec =
-    tie.close (tie.spec returns returns-2 counter-among-requires returns-3 returns-4 returns-5)
+    tie.close (tie.spec returns returns-2 (search needs) returns-3 returns-4 returns-5)

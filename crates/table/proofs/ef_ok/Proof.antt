@@ -2,15 +2,6 @@ use borrow.Author.Needs.{needs}
 use Rattle.table.proofs.ef_ok.Statement.{statement}
 use Rattle.table.proofs.ef_ok.Tie as tie
 
-ef-fields-ok-requires : tie.Need-ef-fields-ok-requires
-ef-fields-ok-requires c κs = search needs
-
-data-ref-ok-requires : tie.Need-data-ref-ok-requires
-data-ref-ok-requires c κs = search needs
-
-clashes-with-requires : tie.Need-clashes-with-requires
-clashes-with-requires c κs = search needs
-
 returns : tie.Need-returns
 returns c =
     let b = c .before .before in
@@ -45,11 +36,4 @@ returns-4 c = simp (← c .before .ef-fields-ok .ensures, c .if1 .left)
 pub ef-ok-spec : {M : Type 1} → statement M
 ef-ok-spec =
     tie.close
-    (tie.spec
-    ef-fields-ok-requires
-    data-ref-ok-requires
-    clashes-with-requires
-    returns
-    returns-2
-    returns-3
-    returns-4)
+    (tie.spec (search needs) (search needs) (search needs) returns returns-2 returns-3 returns-4)

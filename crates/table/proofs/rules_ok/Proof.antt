@@ -16,12 +16,6 @@ returns c =
     let fits : a .count ≤ length (a .files) = search needs in
     rw (length-take-le _ _ fits, le-ltb (a .count) 31 (omega arith))
 
-accesses-ok-requires : tie.Need-accesses-ok-requires
-accesses-ok-requires c κs = search needs
-
-df-ok-requires : tie.Need-df-ok-requires
-df-ok-requires c κs = search needs
-
 returns-2 : tie.Need-returns-2
 unfolding rulesOk
 returns-2 c =
@@ -35,9 +29,6 @@ returns-2 c =
       eq-eqb (a .count) 0 (omega arith),
     )
     (c .df-ok .ensures)
-
-ef-ok-requires : tie.Need-ef-ok-requires
-ef-ok-requires c κs = search needs
 
 returns-3 : tie.Need-returns-3
 unfolding rulesOk
@@ -64,11 +55,4 @@ returns-4 c =
 pub rules-ok-spec : {M : Type 1} → statement M
 rules-ok-spec =
     tie.close
-    (tie.spec
-    returns
-    accesses-ok-requires
-    df-ok-requires
-    returns-2
-    ef-ok-requires
-    returns-3
-    returns-4)
+    (tie.spec returns (search needs) (search needs) returns-2 (search needs) returns-3 returns-4)

@@ -2,11 +2,8 @@ use borrow.Author.Needs.{needs}
 use Rattle.text.proofs.finish.Statement.{statement}
 use Rattle.text.proofs.finish.Tie as tie
 
-end-in-requires : tie.Need-end-in-requires
-end-in-requires c κs = search needs
-
 returns : tie.Need-returns
 returns c = cc (c .end-in .ensures)
 
 pub finish-spec : {M : Type 1} → statement M
-finish-spec = tie.close (tie.spec end-in-requires returns)
+finish-spec = tie.close (tie.spec (search needs) returns)

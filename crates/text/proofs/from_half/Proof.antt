@@ -2,45 +2,6 @@ use borrow.Author.Needs.{needs}
 use Rattle.text.proofs.from_half.Statement.{statement}
 use Rattle.text.proofs.from_half.Tie as tie
 
-enum-told : tie.Need-enum-told
-enum-told c = search needs
-
-more-requires : tie.Need-more-requires
-more-requires c κs = search needs
-
-more-requires-2 : tie.Need-more-requires-2
-more-requires-2 c κs = search needs
-
-placed-requires : tie.Need-placed-requires
-placed-requires c κs = search needs
-
-enum-told-2 : tie.Need-enum-told-2
-enum-told-2 c = search needs
-
-more-requires-3 : tie.Need-more-requires-3
-more-requires-3 c κs = search needs
-
-placed-requires-2 : tie.Need-placed-requires-2
-placed-requires-2 c κs = search needs
-
-enum-told-3 : tie.Need-enum-told-3
-enum-told-3 c = search needs
-
-placed-requires-3 : tie.Need-placed-requires-3
-placed-requires-3 c κs = search needs
-
-enum-told-4 : tie.Need-enum-told-4
-enum-told-4 c = search needs
-
-placed-requires-4 : tie.Need-placed-requires-4
-placed-requires-4 c κs = search needs
-
-enum-told-5 : tie.Need-enum-told-5
-enum-told-5 c = search needs
-
-placed-requires-5 : tie.Need-placed-requires-5
-placed-requires-5 c κs = search needs
-
 returns : tie.Need-returns
 returns c =
     let one = c .before .before in
@@ -61,22 +22,6 @@ returns-5 c = rw (c .placed5 .ensures, c .before .enum-told5 .given .1)
 pub from-half-spec : {M : Type 1} → statement M
 from-half-spec =
     tie.close
-    (tie.spec
-    enum-told
-    more-requires
-    more-requires-2
-    placed-requires
-    enum-told-2
-    more-requires-3
-    placed-requires-2
-    enum-told-3
-    placed-requires-3
-    enum-told-4
-    placed-requires-4
-    enum-told-5
-    placed-requires-5
-    returns
-    returns-2
-    returns-3
-    returns-4
-    returns-5)
+    (tie.spec (search needs) (search needs) (search needs) (search needs) (search needs) (search needs)
+    (search needs) (search needs) (search needs) (search needs) (search needs) (search needs) (search needs)
+    returns returns-2 returns-3 returns-4 returns-5)

@@ -4,9 +4,6 @@ use Rattle.text.specs.Characters.{sortOf}
 use Rattle.text.proofs.sort_of.Statement.{statement}
 use Rattle.text.proofs.sort_of.Tie as tie
 
-sign-of-requires : tie.Need-sign-of-requires
-sign-of-requires c κs = search needs
-
 returns : tie.Need-returns
 unfolding sortOf
 returns c = rw (c .sign-of .ensures) (search cases)
@@ -19,9 +16,6 @@ returns-3 : tie.Need-returns-3
 unfolding sortOf
 returns-3 c = search cases
 
-sub-t4 : tie.Need-sub-t4
-sub-t4 c = search needs
-
 returns-4 : tie.Need-returns-4
 unfolding sortOf
 returns-4 c = search cases
@@ -29,9 +23,6 @@ returns-4 c = search cases
 returns-5 : tie.Need-returns-5
 unfolding sortOf
 returns-5 c = search cases
-
-sub-t5 : tie.Need-sub-t5
-sub-t5 c = search needs
 
 returns-6 : tie.Need-returns-6
 unfolding sortOf
@@ -44,14 +35,5 @@ returns-7 c = search cases
 pub sort-of-spec : {M : Type 1} → statement M
 sort-of-spec =
     tie.close
-    (tie.spec
-    sign-of-requires
-    returns
-    returns-2
-    returns-3
-    sub-t4
-    returns-4
-    returns-5
-    sub-t5
-    returns-6
-    returns-7)
+    (tie.spec (search needs) returns returns-2 returns-3 (search needs) returns-4 returns-5 (search needs)
+    returns-6 returns-7)

@@ -6,29 +6,8 @@ use borrow.Author.Needs.{needs}
 use Rattle.trace.proofs.put_front.Statement.{statement}
 use Rattle.trace.proofs.put_front.Tie as tie
 
-slice-write-out : tie.Need-slice-write-out
-slice-write-out c = search needs
-
-add-out : tie.Need-add-out
-add-out c = search needs
-
 slice-write-out-2 : tie.Need-slice-write-out-2
 slice-write-out-2 c = simp length-set (omega arith)
-
-add-result : tie.Need-add-result
-add-result c = search needs
-
-same-length : tie.Need-same-length
-same-length c = search needs
-
-returns : tie.Need-returns
-returns c = search needs
-
-at-most-requires : tie.Need-at-most-requires
-at-most-requires c κs = search needs
-
-add-put-hex : tie.Need-add-put-hex
-add-put-hex c = search needs
 
 slice-aggregate-put-hex : tie.Need-slice-aggregate-put-hex
 slice-aggregate-put-hex c = simp length-take (omega (arith, c .before .before .at-most .ensures))
@@ -51,16 +30,5 @@ returns-2 c =
 pub put-front-spec : {M : Type 1} → statement M
 put-front-spec =
     tie.close
-    (tie.spec
-    slice-write-out
-    add-out
-    slice-write-out-2
-    add-result
-    same-length
-    returns
-    at-most-requires
-    add-put-hex
-    slice-aggregate-put-hex
-    put-hex-requires
-    same-length-2
-    returns-2)
+    (tie.spec (search needs) (search needs) slice-write-out-2 (search needs) (search needs) (search needs)
+    (search needs) (search needs) slice-aggregate-put-hex put-hex-requires same-length-2 returns-2)

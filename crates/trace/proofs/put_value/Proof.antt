@@ -6,12 +6,6 @@ use borrow.Author.Needs.{needs}
 use Rattle.trace.proofs.put_value.Statement.{statement}
 use Rattle.trace.proofs.put_value.Tie as tie
 
-slice-write-out : tie.Need-slice-write-out
-slice-write-out c = search needs
-
-add-put-mark : tie.Need-add-put-mark
-add-put-mark c = search needs
-
 put-mark-requires : tie.Need-put-mark-requires
 put-mark-requires c κs = simp length-set (omega arith)
 
@@ -20,9 +14,6 @@ same-length c =
     let a = c .before .before .before .before .before .args in
     c .before .before .put-mark .kept .0 ∙ length-set (now (a .out)) (a .at) 32
 
-returns : tie.Need-returns
-returns c = search needs
-
 pub put-value-spec : {M : Type 1} → statement M
 put-value-spec =
-    tie.close (tie.spec slice-write-out add-put-mark put-mark-requires same-length returns)
+    tie.close (tie.spec (search needs) (search needs) put-mark-requires same-length (search needs))

@@ -12,12 +12,6 @@ most i b p q =
     let k : b ≤ 255 = omega arith in
     mul-le-mul h k
 
-add-result : tie.Need-add-result
-add-result c = search needs
-
-wide-requires : tie.Need-wide-requires
-wide-requires c κs = search needs
-
 mul-result : tie.Need-mul-result
 mul-result c = let h = most (c .before .args .i) (c .wide .result) (c .before .pre) (c .wide .ensures .1) in omega (arith, h)
 
@@ -25,4 +19,4 @@ returns : tie.Need-returns
 returns c = most (c .before .args .i) (c .wide .result) (c .before .pre) (c .wide .ensures .1)
 
 pub weight-spec : {M : Type 1} → statement M
-weight-spec = tie.close (tie.spec add-result wide-requires mul-result returns)
+weight-spec = tie.close (tie.spec (search needs) (search needs) mul-result returns)

@@ -1,24 +1,15 @@
-use Prim.Native.Nat.{ℕ, suc, _+_, _*_, _-_, _≤_, _<_, _/_, _%_}
+use Prim.Native.Nat.{ℕ, _-_}
 use mathlib.Core.Path.{_≡_, refl, ap, sym, _∙_}
-use mathlib.Core.List.{List, [], _∷_, _++_}
 use native.Mathlib.Omega.{arith}
-use native.Mathlib.Numerals.{add-one}
-use lib.ListN.{length, take, drop, set, getD, length-set, length-take, length-drop, length-append}
+use lib.ListN.{length}
 use denote.Ref.{now}
 use borrow.Author.Needs.{needs}
 use Rattle.turns.proofs.commanded.Statement.{statement}
 use Rattle.turns.proofs.commanded.Tie as tie
-use Rattle.turns.proofs.commanded.Reads as reads
-use Rattle.turns.proofs.commanded.Lts as lts
-use Rattle.load.proofs.settled.Reads as settled-reads
-use Rattle.load.proofs.walked.Reads as walked-reads
-use Rattle.turns.proofs.lay_end.Reads as lay-end-reads
-use Rattle.turns.proofs.settled_card.Reads as settled-card-reads
 use Rattle.lists.specs.Over.{overwrite}
 use Rattle.model.specs.Rules.{Result, thence}
 use Rattle.model.specs.Command.{theEnd}
 use Rattle.model.specs.Events.{storeData, commanded}
-use Rattle.fci.specs.Answers.{Answers}
 use Rattle.steps.specs.Steps.{stateOf}
 use Rattle.walk.proofs.Paces.{command-all}
 use Rattle.load.specs.Ends.{endOf}
@@ -31,21 +22,9 @@ walked-requires c κs =
     let q = c .before .before .before .before .pre in
     (omega arith, good-steady _ _ (q .0) (q .2))
 
-settled-requires : tie.Need-settled-requires
-settled-requires c κs = search needs
-
-settled-card-requires : tie.Need-settled-card-requires
-settled-card-requires c κs = search needs
-
 lay-end-requires : tie.Need-lay-end-requires
 lay-end-requires c κs =
     c .before .before .before .before .before .before .before .before .before .before .before .pre .1
-
-same-length : tie.Need-same-length
-same-length c = search needs
-
-same-length-2 : tie.Need-same-length-2
-same-length-2 c = search needs
 
 returns : tie.Need-returns
 returns c =
@@ -75,11 +54,5 @@ returns c =
 pub commanded-spec : {M : Type 1} → statement M
 commanded-spec =
     tie.close
-    (tie.spec
-    walked-requires
-    settled-requires
-    settled-card-requires
-    lay-end-requires
-    same-length
-    same-length-2
+    (tie.spec walked-requires (search needs) (search needs) lay-end-requires (search needs) (search needs)
     returns)

@@ -1,15 +1,6 @@
-use Prim.Native.Nat.{ℕ, suc, _+_, _*_, _-_, _≤_, _<_, _/_, _%_}
-use mathlib.Core.Path.{_≡_, refl, ap, sym, _∙_}
-use mathlib.Core.List.{List, [], _∷_, _++_}
-use native.Mathlib.Omega.{arith}
-use native.Mathlib.Numerals.{add-one}
-use lib.ListN.{length, take, drop, set, getD, length-set, length-take, length-drop, length-append}
-use denote.Ref.{now}
-use borrow.Author.Needs.{needs}
+use Prim.Native.Nat.{_-_}
 use Rattle.turns.proofs.settled_card.Statement.{statement}
 use Rattle.turns.proofs.settled_card.Tie as tie
-use Rattle.turns.proofs.settled_card.Reads as reads
-use Rattle.turns.proofs.settled_card.Lts as lts
 
 returns : tie.Need-returns
 returns c = rw (c .before .before .if1 .taken)

@@ -9,11 +9,8 @@ returns c = search cases
 returns-2 : tie.Need-returns-2
 returns-2 c = search cases
 
-rem-result : tie.Need-rem-result
-rem-result c = search needs
-
 returns-3 : tie.Need-returns-3
 returns-3 c = search cases
 
 pub fits-row-spec : {M : Type 1} → statement M
-fits-row-spec = tie.close (tie.spec returns returns-2 rem-result returns-3)
+fits-row-spec = tie.close (tie.spec returns returns-2 (search needs) returns-3)

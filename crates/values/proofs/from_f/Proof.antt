@@ -1,33 +1,18 @@
-use Prim.Native.Nat.{ℕ, suc, _+_, _*_, _-_, _≤_, _<_, _/_, _%_}
-use mathlib.Core.Path.{_≡_, refl, ap, sym, _∙_}
-use mathlib.Core.List.{List, [], _∷_, _++_}
+use Prim.Native.Nat.{_-_}
+use mathlib.Core.Path.{_≡_, sym}
 use native.Mathlib.Omega.{arith}
-use native.Mathlib.Numerals.{add-one}
-use lib.ListN.{length, take, drop, set, getD, length-set, length-take, length-drop, length-append}
+use lib.ListN.{length, drop, length-drop}
 use denote.Ref.{now}
 use borrow.Author.Needs.{needs}
 use Rattle.values.proofs.from_f.Statement.{statement}
 use Rattle.values.proofs.from_f.Tie as tie
-use Rattle.values.proofs.from_f.Reads as reads
-use Rattle.values.proofs.from_f.Lts as lts
-use Rattle.content.proofs.whole_at.Reads as whole-at-reads
-use Rattle.rows.proofs.row_at.Reads as row-at-reads
-use Rattle.steps.proofs.failed_by.Reads as failed-by-reads
-use Rattle.values.proofs.fits_row.Reads as fits-row-reads
-use Rattle.values.proofs.spanned_at.Reads as spanned-at-reads
 use mathlib.Core.Bool.{true, false}
 use lib.Seq.{drop-drop}
 use borrow.Author.Tests.{le-leb, lt-leb}
 use Rattle.model.specs.Rules.{lengthOk}
-use Rattle.steps.specs.Steps.{on, Judges}
+use Rattle.steps.specs.Steps.{on}
 use Rattle.steps.proofs.Chains.{f-refuses, f-spans, f-whole, f-cut}
 use Rattle.values.proofs.Sizes.{row-steps, sized-of, fits-most}
-
-row-at-requires : tie.Need-row-at-requires
-row-at-requires c κs = search needs
-
-add-start : tie.Need-add-start
-add-start c = search needs
 
 fits-row-requires : tie.Need-fits-row-requires
 fits-row-requires c κs =
@@ -48,9 +33,6 @@ returns c =
     λ l a q. rw (f-spans (s .args .capacity) (s .args .row) (s .args .room) (s .args .h) (drop (s .args .at) (now (s .args .d))) (on (s .args .p) l a) k (rw (← r) (c .before .if2 .taken)), drop-drop (s .args .h .size) (s .args .at) (now (s .args .d)))
     (c .spanned-at .ensures (s .args .capacity) (s .args .at) (s .args .room) l a (omega arith) k q)
 
-sub-if3 : tie.Need-sub-if3
-sub-if3 c = search needs
-
 whole-at-requires : tie.Need-whole-at-requires
 whole-at-requires c κs =
     let s = c .before .before .before .before .before .before .before .before in
@@ -70,9 +52,6 @@ returns-2 c =
     )
     (c .whole-at .ensures (s .args .at) l a (omega arith))
 
-failed-by-requires : tie.Need-failed-by-requires
-failed-by-requires c κs = search needs
-
 returns-3 : tie.Need-returns-3
 returns-3 c =
     let s = c .before .before .before .before .before .before .before .before .before in
@@ -84,9 +63,6 @@ returns-3 c =
       ahead = tt;
     })
 
-failed-by-requires-2 : tie.Need-failed-by-requires-2
-failed-by-requires-2 c κs = search needs
-
 returns-4 : tie.Need-returns-4
 returns-4 c =
     let s = c .before .before .before .before .before .before in
@@ -97,16 +73,5 @@ returns-4 c =
 pub from-f-spec : {M : Type 1} → statement M
 from-f-spec =
     tie.close
-    (tie.spec
-    row-at-requires
-    add-start
-    fits-row-requires
-    spanned-at-requires
-    returns
-    sub-if3
-    whole-at-requires
-    returns-2
-    failed-by-requires
-    returns-3
-    failed-by-requires-2
-    returns-4)
+    (tie.spec (search needs) (search needs) fits-row-requires spanned-at-requires returns (search needs)
+    whole-at-requires returns-2 (search needs) returns-3 (search needs) returns-4)

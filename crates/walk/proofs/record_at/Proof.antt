@@ -1,26 +1,14 @@
-use Prim.Native.Nat.{ℕ, suc, _+_, _*_, _-_, _≤_, _<_, _/_, _%_}
-use mathlib.Core.Path.{_≡_, refl, ap, sym, _∙_}
-use mathlib.Core.List.{List, [], _∷_, _++_}
+use Prim.Native.Nat.{ℕ, _-_}
+use mathlib.Core.Path.{_≡_, ap, sym, _∙_, subst}
 use native.Mathlib.Omega.{arith}
-use native.Mathlib.Numerals.{add-one}
-use lib.ListN.{length, take, drop, set, getD, length-set, length-take, length-drop, length-append}
-use denote.Ref.{now}
 use borrow.Author.Needs.{needs}
 use Rattle.walk.proofs.record_at.Statement.{statement}
 use Rattle.walk.proofs.record_at.Tie as tie
-use Rattle.walk.proofs.record_at.Reads as reads
-use Rattle.walk.proofs.record_at.Lts as lts
-use Rattle.laying.proofs.record_step.Reads as record-step-reads
-use Rattle.steps.proofs.failed_by.Reads as failed-by-reads
-use mathlib.Core.Path.{subst}
 use Rattle.model.specs.declared.Open.the-variants.{Record}
 use Rattle.model.specs.declared.Spot.the-variants.{At}
 use Rattle.steps.specs.Steps.{Within}
 use Rattle.laying.specs.Records.{recordStep}
 use Rattle.walk.specs.Turns.{Fits}
-
-enum-known-spot : tie.Need-enum-known-spot
-enum-known-spot c = search needs
 
 record-step-requires : tie.Need-record-step-requires
 record-step-requires c κs =
@@ -28,12 +16,6 @@ record-step-requires c κs =
     let w = subst Within (c .before .spot .given .1) (s .pre .1) in
     let f = subst (Fits (Record (s .args .tag) (s .args .written) (s .args .missing))) (c .before .spot .given .1) (s .pre .2) in
     (omega arith, omega arith)
-
-enum-told : tie.Need-enum-told
-enum-told c = search needs
-
-failed-by-requires : tie.Need-failed-by-requires
-failed-by-requires c κs = search needs
 
 returns : tie.Need-returns
 returns c =
@@ -51,4 +33,4 @@ returns-2 c =
 pub record-at-spec : {M : Type 1} → statement M
 record-at-spec =
     tie.close
-    (tie.spec enum-known-spot record-step-requires enum-told failed-by-requires returns returns-2)
+    (tie.spec (search needs) record-step-requires (search needs) (search needs) returns returns-2)

@@ -1,18 +1,10 @@
-use Prim.Native.Nat.{ℕ, suc, _+_, _*_, _-_, _≤_, _<_, _/_, _%_}
-use mathlib.Core.Path.{_≡_, refl, ap, sym, _∙_}
-use mathlib.Core.List.{List, [], _∷_, _++_}
-use native.Mathlib.Omega.{arith}
-use native.Mathlib.Numerals.{add-one}
-use lib.ListN.{length, take, drop, set, getD, length-set, length-take, length-drop, length-append}
+use Prim.Native.Nat.{_-_}
+use mathlib.Core.Path.{ap, sym, _∙_, subst}
+use lib.ListN.{length, drop}
 use denote.Ref.{now}
 use borrow.Author.Needs.{needs}
 use Rattle.walk.proofs.step_at.Statement.{statement}
 use Rattle.walk.proofs.step_at.Tie as tie
-use Rattle.walk.proofs.step_at.Reads as reads
-use Rattle.walk.proofs.step_at.Lts as lts
-use Rattle.rules.proofs.grouping_at.Reads as grouping-at-reads
-use Rattle.walk.proofs.record_at.Reads as record-at-reads
-use mathlib.Core.Path.{subst}
 use Rattle.model.specs.declared.Open.{Open}
 use Rattle.model.specs.Loads.{fileList}
 use Rattle.model.specs.Rules.{tagSpot}
@@ -20,17 +12,8 @@ use Rattle.steps.specs.Steps.{on, Judges}
 use Rattle.walk.specs.Turns.{Fits, turnBy}
 use Rattle.walk.proofs.Steps.{wanted-head, table-step, record-step, lies}
 
-enum-told : tie.Need-enum-told
-enum-told c = search needs
-
 grouping-at-requires : tie.Need-grouping-at-requires
 grouping-at-requires c κs = (c .before .before .before .pre .1, c .before .before .before .pre .0)
-
-enum-told-2 : tie.Need-enum-told-2
-enum-told-2 c = search needs
-
-enum-known-pending : tie.Need-enum-known-pending
-enum-known-pending c = search needs
 
 record-at-requires : tie.Need-record-at-requires
 record-at-requires c κs =
@@ -62,12 +45,5 @@ returns-3 c =
 pub step-at-spec : {M : Type 1} → statement M
 step-at-spec =
     tie.close
-    (tie.spec
-    enum-told
-    grouping-at-requires
-    enum-told-2
-    enum-known-pending
-    record-at-requires
-    returns
-    returns-2
-    returns-3)
+    (tie.spec (search needs) grouping-at-requires (search needs) (search needs) record-at-requires returns
+    returns-2 returns-3)

@@ -9,28 +9,13 @@ use Rattle.whole.proofs.events_in.Tie as tie
 returns : tie.Need-returns
 returns c = too-short (now (c .before .before .args .register)) (search needs)
 
-sub-n : tie.Need-sub-n
-sub-n c = search needs
-
 returns-2 : tie.Need-returns-2
 returns-2 c = too-many (now (c .before .before .before .args .register)) (search needs) (search needs)
-
-mul-if3 : tie.Need-mul-if3
-mul-if3 c = search needs
-
-add-if3 : tie.Need-add-if3
-add-if3 c = search needs
 
 returns-3 : tie.Need-returns-3
 returns-3 c =
     torn (now (c .before .before .before .before .args .register)) (search needs) (search needs)
     (λ e. omega (arith, c .if3 .taken))
-
-ends-as-requires : tie.Need-ends-as-requires
-ends-as-requires c κs = search needs
-
-last-loaded-requires : tie.Need-last-loaded-requires
-last-loaded-requires c κs = search needs
 
 returns-4 : tie.Need-returns-4
 returns-4 c =
@@ -58,15 +43,5 @@ returns-6 c =
 pub events-in-spec : {M : Type 1} → statement M
 events-in-spec =
     tie.close
-    (tie.spec
-    returns
-    sub-n
-    returns-2
-    mul-if3
-    add-if3
-    returns-3
-    ends-as-requires
-    last-loaded-requires
-    returns-4
-    returns-5
-    returns-6)
+    (tie.spec returns (search needs) returns-2 (search needs) (search needs) returns-3 (search needs)
+    (search needs) returns-4 returns-5 returns-6)

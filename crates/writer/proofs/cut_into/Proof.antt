@@ -8,9 +8,6 @@ use Rattle.order.proofs.Records.{length-records}
 use Rattle.writer.proofs.cut_into.Statement.{statement}
 use Rattle.writer.proofs.cut_into.Tie as tie
 
-command-count-requires : tie.Need-command-count-requires
-command-count-requires c κs = search needs
-
 add-count : tie.Need-add-count
 add-count c =
     let s = c .before .before .before in
@@ -22,9 +19,6 @@ mul-if1 c =
     let s = c .before .before .before in
     let n = length-records (now (s .args .order)) in
     rw (c .command-count .ensures) (omega arith)
-
-refused-by-requires : tie.Need-refused-by-requires
-refused-by-requires c κs = search needs
 
 returns : tie.Need-returns
 returns c =
@@ -40,9 +34,6 @@ lay-records-requires c κs =
     let e = c .before .before .command-count .ensures in
     (s .pre .0, omega arith)
 
-same-length : tie.Need-same-length
-same-length c = search needs
-
 returns-2 : tie.Need-returns-2
 returns-2 c =
     let s = c .before .before .before .before .before .before .before .before in
@@ -54,12 +45,5 @@ returns-2 c =
 pub cut-into-spec : {M : Type 1} → statement M
 cut-into-spec =
     tie.close
-    (tie.spec
-    command-count-requires
-    add-count
-    mul-if1
-    refused-by-requires
-    returns
-    lay-records-requires
-    same-length
-    returns-2)
+    (tie.spec (λ c κs. search needs) add-count mul-if1 (λ c κs. search needs) returns lay-records-requires
+    (λ c. search needs) returns-2)

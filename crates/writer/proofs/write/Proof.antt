@@ -9,20 +9,11 @@ use Rattle.cutting.proofs.Commands.{records-few}
 use Rattle.writer.proofs.write.Statement.{statement}
 use Rattle.writer.proofs.write.Tie as tie
 
-fresh-requires : tie.Need-fresh-requires
-fresh-requires c κs = search needs
-
-refused-by-requires : tie.Need-refused-by-requires
-refused-by-requires c κs = search needs
-
 returns : tie.Need-returns
 returns c =
     let one = c .before in
     let s = one .before .before .before .before .before .before .args in
     rw (refused (now (s .chip)) (now (s .order)) (length (now (s .room))) _ (one .before .before .fresh .ensures) (one .if1 .taken)) (c .refused-by .ensures (now (s .room)))
-
-refused-by-requires-2 : tie.Need-refused-by-requires-2
-refused-by-requires-2 c κs = search needs
 
 returns-2 : tie.Need-returns-2
 returns-2 c =
@@ -31,17 +22,11 @@ returns-2 c =
     rw (too-long (now (s .chip)) (now (s .order)) (length (now (s .room))) _ (one .before .before .fresh .ensures) (one .if1 .left) (c .before .if2 .taken))
     (c .refused-by2 .ensures (now (s .room)))
 
-is-complete-requires : tie.Need-is-complete-requires
-is-complete-requires c κs = search needs
-
 cut-into-requires : tie.Need-cut-into-requires
 cut-into-requires c κs =
     let s = c .before .before .before .before .before .before .before .before .before .before .args in
     let e = sym (c .before .before .is-complete .ensures) ∙ c .before .if3 .taken in
     (complete-cuttable _ (now (s .order)) e, records-few _ (now (s .order)) e (omega arith))
-
-same-length : tie.Need-same-length
-same-length c = search needs
 
 returns-3 : tie.Need-returns-3
 returns-3 c =
@@ -51,9 +36,6 @@ returns-3 c =
     let e = sym (three .before .is-complete .ensures) ∙ three .if3 .taken in
     rw (is-cut (now (s .chip)) (now (s .order)) (length (now (s .room))) _ (one .before .before .fresh .ensures) (one .if1 .left) (omega arith) e)
     (c .before .before .cut-into .ensures)
-
-refused-by-requires-3 : tie.Need-refused-by-requires-3
-refused-by-requires-3 c κs = search needs
 
 returns-4 : tie.Need-returns-4
 returns-4 c =
@@ -67,15 +49,5 @@ returns-4 c =
 pub write-spec : {M : Type 1} → statement M
 write-spec =
     tie.close
-    (tie.spec
-    fresh-requires
-    refused-by-requires
-    returns
-    refused-by-requires-2
-    returns-2
-    is-complete-requires
-    cut-into-requires
-    same-length
-    returns-3
-    refused-by-requires-3
-    returns-4)
+    (tie.spec (search needs) (search needs) returns (search needs) returns-2 (search needs)
+    cut-into-requires (search needs) returns-3 (search needs) returns-4)

@@ -13,35 +13,11 @@ Inv-loop room₀ filled bytes to₀ i₀ room to i = (to ≤ length room) × (i 
 abbrev μ-loop : tie.MeasureT-loop
 μ-loop room₀ filled bytes to₀ i₀ room to i = length bytes - i
 
-loop-holds : tie.Need-loop-holds Inv-loop μ-loop
-loop-holds c = search needs
-
-same-length : tie.Need-same-length Inv-loop μ-loop
-same-length c = search needs
-
 returns : tie.Need-returns Inv-loop μ-loop
 returns c = counts _ _ (search needs)
 
-shared-slice-read-room : tie.Need-shared-slice-read-room Inv-loop μ-loop
-shared-slice-read-room c = search needs
-
-slice-write-room : tie.Need-slice-write-room Inv-loop μ-loop
-slice-write-room c = search needs
-
-add-to : tie.Need-add-to Inv-loop μ-loop
-add-to c = search needs
-
-add-i : tie.Need-add-i Inv-loop μ-loop
-add-i c = search needs
-
-loop-less : tie.Need-loop-less Inv-loop μ-loop
-loop-less c = search needs
-
 loop-again : tie.Need-loop-again Inv-loop μ-loop
 loop-again c = (simp length-set (omega arith), omega arith, simp length-set (search needs))
-
-same-length-2 : tie.Need-same-length-2 Inv-loop μ-loop
-same-length-2 c = search needs
 
 returns-2 : tie.Need-returns-2 Inv-loop μ-loop
 returns-2 c = counts _ _ (search needs)
@@ -49,17 +25,5 @@ returns-2 c = counts _ _ (search needs)
 pub put-text-spec : {M : Type 1} → statement M
 put-text-spec =
     tie.close
-    (tie.spec
-    Inv-loop
-    μ-loop
-    loop-holds
-    same-length
-    returns
-    shared-slice-read-room
-    slice-write-room
-    add-to
-    add-i
-    loop-less
-    loop-again
-    same-length-2
-    returns-2)
+    (tie.spec Inv-loop μ-loop (search needs) (search needs) returns (search needs) (search needs)
+    (search needs) (search needs) (search needs) loop-again (search needs) returns-2)

@@ -10,25 +10,7 @@ Inv-loop good₀ c area sfi last nn₀ good nn =
 abbrev μ-loop : tie.MeasureT-loop
 μ-loop good₀ c area sfi last nn₀ good nn = last - nn
 
-loop-holds : tie.Need-loop-holds Inv-loop μ-loop
-loop-holds c = search needs
-
-add-nn : tie.Need-add-nn Inv-loop μ-loop
-add-nn c = search needs
-
-write-record-requires : tie.Need-write-record-requires Inv-loop μ-loop
-write-record-requires c κs = search needs
-
-loop-less : tie.Need-loop-less Inv-loop μ-loop
-loop-less c = search needs
-
-loop-again : tie.Need-loop-again Inv-loop μ-loop
-loop-again c = search needs
-
-returns : tie.Need-returns Inv-loop μ-loop
-returns c = search needs
-
 pub write-records-spec : {M : Type 1} → statement M
 write-records-spec =
     tie.close
-    (tie.spec Inv-loop μ-loop loop-holds add-nn write-record-requires loop-less loop-again returns)
+    (tie.spec Inv-loop μ-loop (search needs) (search needs) (search needs) (search needs) (search needs) (search needs))

@@ -12,29 +12,11 @@ ends c =
     let n = c .before .before .before .before .before .before .at-most in
     omega (arith, c .put-hex .ensures .0, length-take (n .result) (now (c .before .before .before .before .before .before .before .before .before .before .before .args .bytes)), n .ensures .0)
 
-empty-line-requires : tie.Need-empty-line-requires
-empty-line-requires c κs = search needs
-
-at-most-requires : tie.Need-at-most-requires
-at-most-requires c κs = search needs
-
-slice-aggregate-put-bytes : tie.Need-slice-aggregate-put-bytes
-slice-aggregate-put-bytes c = search needs
-
-put-bytes-requires : tie.Need-put-bytes-requires
-put-bytes-requires c κs = search needs
-
-slice-aggregate-put-hex : tie.Need-slice-aggregate-put-hex
-slice-aggregate-put-hex c = search needs
-
 slice-aggregate-put-hex-2 : tie.Need-slice-aggregate-put-hex-2
 slice-aggregate-put-hex-2 c = simp length-take (omega arith)
 
 put-hex-requires : tie.Need-put-hex-requires
 put-hex-requires c κs = simp length-take (omega (arith, c .before .before .before .before .before .at-most .ensures .0, c .before .before .before .before .before .before .before .before .before .before .pre))
-
-slice-aggregate-put-bytes-2 : tie.Need-slice-aggregate-put-bytes-2
-slice-aggregate-put-bytes-2 c = search needs
 
 put-bytes-requires-2 : tie.Need-put-bytes-requires-2
 put-bytes-requires-2 c κs = omega (arith, ends (c .before .before), c .before .before .before .before .before .before .before .before .before .before .before .before .before .pre)
@@ -48,27 +30,9 @@ array-share-prefix-line c = omega (arith, ends (c .before .before .before .befor
 slice-aggregate-write : tie.Need-slice-aggregate-write
 slice-aggregate-write c = simp length-take (omega (arith, ends (c .before .before .before .before .before .before), c .before .before .before .before .before .before .before .before .before .before .before .before .before .before .before .before .before .pre))
 
-write-requires : tie.Need-write-requires
-write-requires c κs = search needs
-
-returns : tie.Need-returns
-returns c = search needs
-
 pub write-hex-spec : {M : Type 1} → statement M
 write-hex-spec =
     tie.close
-    (tie.spec
-    empty-line-requires
-    at-most-requires
-    slice-aggregate-put-bytes
-    put-bytes-requires
-    slice-aggregate-put-hex
-    slice-aggregate-put-hex-2
-    put-hex-requires
-    slice-aggregate-put-bytes-2
-    put-bytes-requires-2
-    add-line
-    array-share-prefix-line
-    slice-aggregate-write
-    write-requires
-    returns)
+    (tie.spec (search needs) (search needs) (search needs) (search needs) (search needs)
+    slice-aggregate-put-hex-2 put-hex-requires (search needs) put-bytes-requires-2 add-line
+    array-share-prefix-line slice-aggregate-write (search needs) (search needs))
