@@ -21,11 +21,15 @@ pub fn is_due(rows: u16, last: u16, r: usize, tag: u16) -> bool
     requires { ⌜ (1 ≤ r) × (r ≤ 11) ⌝ }
     ensures { λ x. ⌜ x ≡ due rows last r tag ⌝ }
 {
+    // asked by itself, for speed: most groupings are records, and of a constant the compiler makes one test
+    if r == RECORD_ROW {
+        if rows::missing_before(rows, RECORD_ROW - 1) {
+            return false;
+        }
+        return is_rising(rows, last, tag);
+    }
     if rows::missing_before(rows, r - 1) {
         return false;
-    }
-    if r == RECORD_ROW {
-        return is_rising(rows, last, tag);
     }
     rows >> (r - 1) == 0
 }

@@ -22,7 +22,7 @@ use Rattle.model.specs.declared.Descriptor.{Descriptor}
 use Rattle.model.specs.declared.Open.{Open}
 use Rattle.model.specs.declared.Open.the-variants.{Shut, Table, Record}
 use Rattle.model.specs.declared.Verdict.{Verdict}
-use Rattle.model.specs.declared.Verdict.the-variants.{Passes, Refuses}
+use Rattle.model.specs.declared.Verdict.the-variants.{Passes}
 use Rattle.model.specs.Rows.{descriptorSize}
 use Rattle.model.specs.Table.{admitOf, rulesOk}
 use Rattle.model.specs.Loads.{State, withOpen, withProgress, runningOpen, runningTaken}
@@ -32,7 +32,7 @@ use Rattle.lists.specs.Least.{rest-least, part-least}
 use Rattle.model.specs.Rules.{feeding, fed}
 use Rattle.model.specs.declared.Running.{Running}
 use Rattle.steps.specs.Steps.{stateOf, missingIn}
-use Rattle.feed.specs.Bytes.{tableRun, TakenTo}
+use Rattle.feed.specs.Bytes.{tableRun}
 
 -- a descriptor in the table, which misses so much behind it
 pub run-ends : (m : ℕ) (p : Running) → m ≡ 0 → tableRun m p ≡ runningTaken 5 (runningOpen Shut p)
@@ -129,14 +129,6 @@ module _ (l : Loading) (m : ℕ) (y : Fed 0 m (stateOf l [])) where
 
   pub never-record : (tag written left : ℕ) → l .running .pending ≡ Record tag written left → ⊥
   never-record tag written left e = subst (Misses m) e (y .misses)
-
--- what a verdict on bytes of '3100' tells
-module _ (v : Verdict) (d : List ℕ) (at end : ℕ) (s t : State) (h : TakenTo v d at end s t) where
-  pub passed-to : (i : ℕ) → v ≡ Passes i → (at < i) × (i ≤ end) × (tableBytes (part d at (i - at)) s ≡ went 0 t)
-  passed-to i e = subst (λ (x : Verdict). TakenTo x d at end s t) e h
-
-  pub refused-by : (w : ℕ) → v ≡ Refuses w → tableBytes (part d at (end - at)) s ≡ failed w t
-  refused-by w e = subst (λ (x : Verdict). TakenTo x d at end s t) e h
 
 -- an open '3100' takes what it misses, as far as the data goes
 pub table-feeds : (d : List ℕ) (at h m n : ℕ) (s : State) → n ≡ min m (length d - at)

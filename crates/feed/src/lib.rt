@@ -7,13 +7,15 @@ use model::Verdict;
 ghost use mathlib.Core.Path.{_≡_};
 ghost use mathlib.Core.List.{List, []};
 ghost use Prim.Native.Nat.{ℕ, _+_, _-_, _≤_, _<_, min};
-ghost use lib.ListN.{length, drop};
+ghost use lib.ListN.{length, drop, set};
 ghost use Rattle.lists.specs.Over.{overwrite};
-ghost use Rattle.model.specs.Loads.{withFile};
-ghost use Rattle.model.specs.Rules.{tableDone, tableByte, fed};
+ghost use Rattle.model.specs.declared.Open.the-variants.{Table};
+ghost use Rattle.model.specs.Table.{descriptorOf};
+ghost use Rattle.model.specs.Loads.{runningOpen};
+ghost use Rattle.model.specs.Rules.{fed};
 ghost use Rattle.soundness.proofs.Feeding.{Fed};
 ghost use Rattle.steps.specs.Steps.{stateOf, missingIn};
-ghost use Rattle.feed.specs.Bytes.{heldOf, Ended, tableRun, TakenTo, fedAs, Reaches};
+ghost use Rattle.feed.specs.Bytes.{heldOf, tableRun, fedAs, Reaches};
 
 const TABLE_ROW: usize = 5;
 
@@ -21,6 +23,19 @@ const TABLE_ROW: usize = 5;
 pub struct Taken {
     pub verdict: Verdict,
     pub load: Loading,
+}
+
+// So many bytes of a descriptor are held, and so many of the table missing.
+fn holding(p: Running, held: usize, missing: usize) -> Running
+    ensures { λ r. ⌜ r ≡ runningOpen (Table held missing) p ⌝ }
+{
+    steps::with_open(
+        p,
+        Open::Table {
+            held: held,
+            missing: missing,
+        },
+    )
 }
 
 // A descriptor is in the table, which misses so much behind it: taken whole, or still open.
@@ -31,56 +46,15 @@ fn table_run(p: Running, missing: usize) -> Running
         let shut = steps::with_open(p, Open::Shut);
         return steps::with_taken(shut, TABLE_ROW);
     }
-    steps::with_open(
-        p,
-        Open::Table {
-            held: 0,
-            missing: missing,
-        },
-    )
-}
-
-// A descriptor enters the table.
-fn entered(mut l: Loading, d: Descriptor, missing: usize) -> Loading
-    requires { ⌜ l .count < 31 ⌝ }
-    ensures { λ r. ⌜ ((a : List ℕ) → tableDone missing (stateOf (withFile d l) a) ≡ stateOf r a) ⌝ }
-{
-    let at = l.count;
-    let running = table_run(l.running, missing);
-    l.files[at] = d;
-    l.count = at + 1;
-    l.held = [0u8; 18];
-    l.running = running;
-    l
-}
-
-// The last byte of a descriptor, before `next`: it is judged, and stands in the table or not.
-fn last_byte(l: Loading, missing: usize, b: u8, next: usize) -> Taken
-    requires { ⌜ (l .count ≤ 31) × (length (l .files) ≡ 31) ⌝ }
-    ensures { λ r. ⌜ ((a : List ℕ) → Ended (r .verdict) next (tableByte 17 missing b (stateOf l a)) (stateOf (r .load) a)) ⌝ }
-{
-    let mut bytes = l.held;
-    bytes[17] = b;
-    let d = decoded::descriptor_of(bytes);
-    let files = l.files;
-    let verdict = table::admit(d, files, l.count);
-    match verdict {
-        Verdict::Passes(_) => Taken {
-            verdict: Verdict::Passes(next),
-            load: entered(l, d, missing),
-        },
-        Verdict::Refuses(_) => Taken {
-            verdict: verdict,
-            load: l,
-        },
-    }
+    holding(p, 0, missing)
 }
 
 // How many bytes of a descriptor an open '3100' holds.
-fn held_of(o: Open) -> usize
-    ensures { λ r. ⌜ r ≡ heldOf o ⌝ }
+fn held_in(p: Running) -> usize
+    ensures { λ r. ⌜ r ≡ heldOf (p .pending) ⌝ }
 {
-    match o {
+    let pending = p.pending;
+    match pending {
         Open::Table { held, missing: _ } => held,
         Open::Shut => 0,
         Open::Record {
@@ -101,41 +75,29 @@ fn stashed(held: [u8; 18], at: usize, bytes: &[u8]) -> [u8; 18]
     next
 }
 
-// Bytes of an open '3100' up to the end of a descriptor, or up to `end`.
-fn descriptor_fed(mut l: Loading, d: &[u8], at: usize, end: usize, missing: usize) -> Taken
-    requires { ⌜ Fed 0 missing (stateOf l []) × (at < end) × (end ≤ length (now d)) × (end - at ≤ missing) ⌝ }
-    ensures { λ r. ⌜ ((a : List ℕ) → TakenTo (r .verdict) (now (d .entry)) at end (stateOf l a) (stateOf (r .load) a)) ⌝ }
+// A descriptor by its first 17 bytes and its last.
+fn descriptor_of(held: [u8; 18], last: u8) -> Descriptor
+    ensures { λ r. ⌜ r ≡ descriptorOf (set held 17 last) ⌝ }
 {
-    let p = l.running;
-    let pending = p.pending;
-    let held = held_of(pending);
-    let n = bytes::least(17 - held, end - at);
-    let last = at + n;
-    let before = l.held;
-    let bytes = stashed(before, held, &d[at..last]);
-    l.held = bytes;
-    let running = steps::with_open(
-        p,
-        Open::Table {
-            held: held + n,
-            missing: missing - n,
-        },
-    );
-    l.running = running;
-    if last == end {
-        return Taken {
-            verdict: Verdict::Passes(end),
-            load: l,
-        };
-    }
-    last_byte(l, missing - n - 1, d[last], last + 1)
+    let mut bytes = held;
+    bytes[17] = last;
+    decoded::descriptor_of(bytes)
+}
+
+// The place behind one before the end.
+fn behind(at: usize, end: usize) -> usize
+    requires { ⌜ at < end ⌝ }
+    ensures { λ r. ⌜ r ≡ at + 1 ⌝ }
+{
+    at + 1
 }
 
 // How much an open '3100' misses.
-fn missing_in(o: Open) -> usize
-    ensures { λ r. ⌜ r ≡ missingIn o ⌝ }
+fn missing_in(p: Running) -> usize
+    ensures { λ r. ⌜ r ≡ missingIn (p .pending) ⌝ }
 {
-    match o {
+    let pending = p.pending;
+    match pending {
         Open::Table { held: _, missing } => missing,
         Open::Shut => 0,
         Open::Record {
@@ -151,18 +113,34 @@ pub fn table_fed(mut l: Loading, d: &[u8], mut at: usize) -> Taken
     requires { ⌜ (at ≤ length (now d)) × Fed 0 (missingIn (l .running .pending)) (stateOf l []) ⌝ }
     ensures { λ r. ⌜ ((a : List ℕ) → fedAs (r .verdict) (now (d .entry)) (stateOf (r .load) a) ≡ fed (drop at (now (d .entry))) (stateOf l a)) × Reaches (r .verdict) (at + min (missingIn (l .running .pending)) (length (now (d .entry)) - at)) ⌝ }
 {
-    let p = l.running;
-    let pending = p.pending;
-    let mut missing = missing_in(pending);
+    let mut missing = missing_in(l.running);
     let end = at + bytes::least(missing, d.len() - at);
     while at < end {
-        let t = descriptor_fed(l, d, at, end, missing);
-        let verdict = t.verdict;
-        l = t.load;
+        let p = l.running;
+        let held = held_in(p);
+        let n = bytes::least(17 - held, end - at);
+        let last = at + n;
+        let bytes = stashed(l.held, held, &d[at..last]);
+        l.held = bytes;
+        l.running = holding(p, held + n, missing - n);
+        if last == end {
+            return Taken {
+                verdict: Verdict::Passes(end),
+                load: l,
+            };
+        }
+        let x = descriptor_of(bytes, d[last]);
+        let files = l.files;
+        let verdict = table::admit(x, files, l.count);
         match verdict {
-            Verdict::Passes(next) => {
-                missing -= next - at;
-                at = next;
+            Verdict::Passes(_) => {
+                let count = l.count;
+                l.files[count] = x;
+                l.count = count + 1;
+                l.held = [0u8; 18];
+                missing = missing - n - 1;
+                l.running = table_run(l.running, missing);
+                at = behind(last, end);
             }
             Verdict::Refuses(_) => {
                 return Taken {

@@ -50,6 +50,9 @@ pub fn fits_row(x: Row, room: usize, len: usize) -> bool
     if room < len {
         return false;
     }
+    if x.step == 1 {
+        return true; // without a division
+    }
     len % x.step == 0
 }
 

@@ -10,7 +10,7 @@ returns c =
     c .with-taken .ensures ∙ rw (c .before .with-open .ensures) (sym (run-ends _ _ (c .before .before .if1 .taken)))
 
 returns-2 : tie.Need-returns-2
-returns-2 c = c .with-open2 .ensures ∙ sym (run-goes-on _ _ (c .before .if1 .left))
+returns-2 c = c .holding .ensures ∙ sym (run-goes-on _ _ (c .before .if1 .left))
 
 pub table-run-spec : {M : Type 1} → statement M
 table-run-spec =

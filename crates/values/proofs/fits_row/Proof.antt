@@ -1,4 +1,5 @@
 use borrow.Author.Needs.{needs}
+use native.Mathlib.Nat.{mod-one}
 use Rattle.lists.specs.Choice.{cases}
 use Rattle.values.proofs.fits_row.Statement.{statement}
 use Rattle.values.proofs.fits_row.Tie as tie
@@ -10,7 +11,10 @@ returns-2 : tie.Need-returns-2
 returns-2 c = search cases
 
 returns-3 : tie.Need-returns-3
-returns-3 c = search cases
+returns-3 c = rw (c .if3 .taken, mod-one) (search cases)
+
+returns-4 : tie.Need-returns-4
+returns-4 c = search cases
 
 pub fits-row-spec : {M : Type 1} → statement M
-fits-row-spec = tie.close (tie.spec returns returns-2 (search needs) returns-3)
+fits-row-spec = tie.close (tie.spec returns returns-2 returns-3 (search needs) returns-4)
