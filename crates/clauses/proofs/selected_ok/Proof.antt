@@ -9,8 +9,5 @@ returns c = simp (eq-eqb _ _ (c .before .if1 .taken), c .if2 .taken)
 returns-2 : tie.Need-returns-2
 returns-2 c = simp (eq-eqb _ _ (c .before .if1 .taken), c .if2 .left)
 
-returns-3 : tie.Need-returns-3
-returns-3 c = search cases
-
 pub selected-ok-spec : {M : Type 1} → statement M
-selected-ok-spec = tie.close (tie.spec returns returns-2 returns-3)
+selected-ok-spec = tie.close (tie.spec returns returns-2 (λ c. search cases))

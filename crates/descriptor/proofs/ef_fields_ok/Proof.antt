@@ -3,12 +3,6 @@ use Rattle.lists.specs.Choice.{cases}
 use Rattle.descriptor.proofs.ef_fields_ok.Statement.{statement}
 use Rattle.descriptor.proofs.ef_fields_ok.Tie as tie
 
-returns : tie.Need-returns
-returns c = search cases
-
-returns-2 : tie.Need-returns-2
-returns-2 c = search cases
-
 returns-3 : tie.Need-returns-3
 returns-3 c = simp (← c .before .before .before .ef-type .ensures, c .before .before .if3 .taken) (search cases)
 
@@ -22,4 +16,5 @@ returns-5 c = simp (← c .before .ef-type .ensures, c .if3 .left) (search cases
 pub ef-fields-ok-spec : {M : Type 1} → statement M
 ef-fields-ok-spec =
     tie.close
-    (tie.spec returns returns-2 (search needs) returns-3 (search needs) returns-4 returns-5)
+    (tie.spec (λ c. search cases) (λ c. search cases) (search needs) returns-3 (search needs) returns-4
+    returns-5)

@@ -10,5 +10,4 @@ returns c =
     (search needs, search needs, rw w, search needs, d ∙ rw w)
 
 pub put-number-spec : {M : Type 1} → statement M
-put-number-spec =
-    tie.close (tie.spec (search needs) (search needs) (search needs) (search needs) returns)
+put-number-spec = tie.close (tie.spec (search needs) (search needs) (search needs) (search needs) returns)

@@ -34,4 +34,6 @@ returns c =
     (omega (arith, l .inv .3, width-one (20 - l .w) (l .rest) (omega arith)), omega arith, omega arith)
 
 pub width-spec : {M : Type 1} → statement M
-width-spec = tie.close (tie.spec Inv-loop μ-loop loop-holds (λ c. search needs) loop-less loop-again returns)
+width-spec =
+    tie.close
+    (tie.spec Inv-loop μ-loop loop-holds (λ c. search needs) loop-less loop-again returns)

@@ -144,8 +144,9 @@ returns-3 c =
 pub table-fed-spec : {M : Type 1} → statement M
 table-fed-spec =
     tie.close
-    (tie.spec Inv-loop μ-loop (search needs) (search needs) (search needs) (search needs) loop-holds (search needs)
-    sub-least-2 (search needs) (search needs) (search needs) (search needs) (search needs) (search needs) stashed-requires
-    (search needs) sub-holding (search needs) returns shared-slice-read-descriptor-of (search needs) admit-requires
-    (search needs) mul-x element-set-from-x add-l sub-missing sub-missing-2 (search needs) behind-requires loop-less loop-again
-    (search needs) returns-2 returns-3)
+    (tie.spec Inv-loop μ-loop (search needs) (search needs) (search needs) (search needs) loop-holds
+    (search needs) sub-least-2 (search needs) (search needs) (search needs) (search needs) (search needs)
+    (search needs) stashed-requires (search needs) sub-holding (search needs) returns
+    shared-slice-read-descriptor-of (search needs) admit-requires (search needs) mul-x element-set-from-x
+    add-l sub-missing sub-missing-2 (search needs) behind-requires loop-less loop-again (search needs)
+    returns-2 returns-3)

@@ -13,6 +13,4 @@ returns-2 : tie.Need-returns-2
 returns-2 c = c .holding .ensures ∙ sym (run-goes-on _ _ (c .before .if1 .left))
 
 pub table-run-spec : {M : Type 1} → statement M
-table-run-spec =
-    tie.close
-    (tie.spec (search needs) (search needs) returns (search needs) returns-2)
+table-run-spec = tie.close (tie.spec (search needs) (search needs) returns (search needs) returns-2)

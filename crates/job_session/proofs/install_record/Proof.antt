@@ -12,5 +12,4 @@ returns c =
     (c .before .lay .ensures ∙ record-laid (record { kind = 1; p1 = 0x0C; bytes = installData }) (omega arith), search needs)
 
 pub install-record-spec : {M : Type 1} → statement M
-install-record-spec =
-    tie.close (tie.spec (search needs) (search needs) (search needs) returns)
+install-record-spec = tie.close (tie.spec (search needs) (search needs) (search needs) returns)

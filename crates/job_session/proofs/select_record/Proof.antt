@@ -12,5 +12,4 @@ returns c =
     (c .before .lay .ensures ∙ record-laid (record { kind = 3; p1 = 0x00; bytes = instanceName }) (omega arith), search needs)
 
 pub select-record-spec : {M : Type 1} → statement M
-select-record-spec =
-    tie.close (tie.spec (search needs) (search needs) (search needs) returns)
+select-record-spec = tie.close (tie.spec (search needs) (search needs) (search needs) returns)

@@ -7,9 +7,6 @@ use Rattle.hex.proofs.Runs.{run-fields}
 use Rattle.lines.proofs.put_counts.Statement.{statement}
 use Rattle.lines.proofs.put_counts.Tie as tie
 
-put-two-requires : tie.Need-put-two-requires
-put-two-requires c κs = simp length-set (omega arith)
-
 slice-write-out-2 : tie.Need-slice-write-out-2
 slice-write-out-2 c = rw (c .before .before .put-two .ensures, length-over, length-set) (omega arith)
 
@@ -34,5 +31,6 @@ same-length c = ap length (returns c) ∙ length-over _ _ _
 pub put-counts-spec : {M : Type 1} → statement M
 put-counts-spec =
     tie.close
-    (tie.spec (search needs) (search needs) (search needs) (search needs) put-two-requires (search needs)
-    slice-write-out-2 (search needs) put-two-requires-2 (search needs) slice-write-out-3 same-length returns)
+    (tie.spec (search needs) (search needs) (search needs) (search needs)
+    (λ c κs. simp length-set (omega arith)) (search needs) slice-write-out-2 (search needs)
+    put-two-requires-2 (search needs) slice-write-out-3 same-length returns)

@@ -7,9 +7,6 @@ use Rattle.hex.proofs.Runs.{run-fields}
 use Rattle.lines.proofs.put_states.Statement.{statement}
 use Rattle.lines.proofs.put_states.Tie as tie
 
-put-hex2-requires : tie.Need-put-hex2-requires
-put-hex2-requires c κs = simp length-set (omega arith)
-
 slice-write-out-2 : tie.Need-slice-write-out-2
 slice-write-out-2 c = rw (c .before .before .put-hex2 .ensures, length-over, length-set) (omega arith)
 
@@ -34,6 +31,6 @@ same-length c = ap length (returns c) ∙ length-over _ _ _
 pub put-states-spec : {M : Type 1} → statement M
 put-states-spec =
     tie.close
-    (tie.spec (search needs) (search needs) (search needs) (search needs) put-hex2-requires (search needs)
-    slice-write-out-2 (search needs) put-hex2-requires-2 (search needs) slice-write-out-3 same-length
-    returns)
+    (tie.spec (search needs) (search needs) (search needs) (search needs)
+    (λ c κs. simp length-set (omega arith)) (search needs) slice-write-out-2 (search needs)
+    put-hex2-requires-2 (search needs) slice-write-out-3 same-length returns)

@@ -19,4 +19,6 @@ returns-3 c =
     rw (s .1) (fits-behind (a .written) (a .missing) (s .0 .1 .0) (c .if1 .left))
 
 pub record-fits-spec : {M : Type 1} → statement M
-record-fits-spec = tie.close (tie.spec (λ c. search needs) (λ c. search needs) returns (λ c. search needs) returns-3)
+record-fits-spec =
+    tie.close
+    (tie.spec (λ c. search needs) (λ c. search needs) returns (λ c. search needs) returns-3)

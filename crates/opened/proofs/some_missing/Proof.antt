@@ -10,4 +10,6 @@ returns-3 c = rw (c .before .o2 .given .1)
 
 pub some-missing-spec : {M : Type 1} → statement M
 some-missing-spec =
-    tie.close (tie.spec (λ c. search needs) (λ c. search needs) (λ c. search needs) (λ c. search needs) returns-2 returns-3)
+    tie.close
+    (tie.spec (λ c. search needs) (λ c. search needs) (λ c. search needs) (λ c. search needs) returns-2
+    returns-3)

@@ -28,4 +28,5 @@ returns-5 c =
 
 pub table-fits-spec : {M : Type 1} → statement M
 table-fits-spec =
-    tie.close (tie.spec returns returns-2 returns-3 (search needs) (search needs) (search needs) returns-4 returns-5)
+    tie.close
+    (tie.spec returns returns-2 returns-3 (search needs) (search needs) (search needs) returns-4 returns-5)

@@ -8,18 +8,6 @@ use Rattle.places.proofs.spot_in.Tie as tie
 returns : tie.Need-returns
 returns c = rw (c .size-of .ensures .0) (search cases)
 
-returns-2 : tie.Need-returns-2
-returns-2 c = search cases
-
-returns-3 : tie.Need-returns-3
-returns-3 c = search cases
-
-returns-4 : tie.Need-returns-4
-returns-4 c = search cases
-
-returns-5 : tie.Need-returns-5
-returns-5 c = search cases
-
 mul-skipped : tie.Need-mul-skipped
 mul-skipped c = omega (arith, bytes-product (c .wide2 .ensures .1) (c .before .wide .ensures .1))
 
@@ -32,5 +20,5 @@ returns-6 c = rw (c .wide2 .ensures .0, c .before .wide .ensures .0) (search cas
 pub spot-in-spec : {M : Type 1} → statement M
 spot-in-spec =
     tie.close
-    (tie.spec (search needs) returns returns-2 returns-3 returns-4 returns-5 (search needs) (search needs)
-    mul-skipped add-begin returns-6)
+    (tie.spec (search needs) returns (λ c. search cases) (λ c. search cases) (λ c. search cases)
+    (λ c. search cases) (search needs) (search needs) mul-skipped add-begin returns-6)

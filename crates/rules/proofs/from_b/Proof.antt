@@ -23,4 +23,5 @@ returns-2 c =
 
 pub from-b-spec : {M : Type 1} → statement M
 from-b-spec =
-    tie.close (tie.spec (λ c κs. search needs) (λ c κs. search needs) returns (λ c κs. search needs) returns-2)
+    tie.close
+    (tie.spec (λ c κs. search needs) (λ c κs. search needs) returns (λ c κs. search needs) returns-2)

@@ -38,5 +38,4 @@ returns-5 c =
     checked-6 _ _ _ _ (s .before .if1 .left) (sym (s .is-sound .ensures .0) ∙ c .if2 .left)
 
 pub refusal-spec : {M : Type 1} → statement M
-refusal-spec =
-    tie.close (tie.spec returns (search needs) returns-2 returns-3 returns-4 returns-5)
+refusal-spec = tie.close (tie.spec returns (search needs) returns-2 returns-3 returns-4 returns-5)

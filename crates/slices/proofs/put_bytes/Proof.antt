@@ -15,4 +15,5 @@ returns c =
 
 pub put-bytes-spec : {M : Type 1} → statement M
 put-bytes-spec =
-    tie.close (tie.spec (search needs) (search needs) (search needs) (search needs) (search needs) returns)
+    tie.close
+    (tie.spec (search needs) (search needs) (search needs) (search needs) (search needs) returns)

@@ -2,14 +2,5 @@ use Rattle.lists.specs.Choice.{cases}
 use Rattle.sound.proofs.rows_ok.Statement.{statement}
 use Rattle.sound.proofs.rows_ok.Tie as tie
 
-returns : tie.Need-returns
-returns c = search cases
-
-returns-2 : tie.Need-returns-2
-returns-2 c = search cases
-
-returns-3 : tie.Need-returns-3
-returns-3 c = search cases
-
 pub rows-ok-spec : {M : Type 1} → statement M
-rows-ok-spec = tie.close (tie.spec returns returns-2 returns-3)
+rows-ok-spec = tie.close (tie.spec (λ c. search cases) (λ c. search cases) (λ c. search cases))

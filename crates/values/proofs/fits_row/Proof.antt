@@ -4,17 +4,10 @@ use Rattle.lists.specs.Choice.{cases}
 use Rattle.values.proofs.fits_row.Statement.{statement}
 use Rattle.values.proofs.fits_row.Tie as tie
 
-returns : tie.Need-returns
-returns c = search cases
-
-returns-2 : tie.Need-returns-2
-returns-2 c = search cases
-
 returns-3 : tie.Need-returns-3
 returns-3 c = rw (c .if3 .taken, mod-one) (search cases)
 
-returns-4 : tie.Need-returns-4
-returns-4 c = search cases
-
 pub fits-row-spec : {M : Type 1} → statement M
-fits-row-spec = tie.close (tie.spec returns returns-2 returns-3 (search needs) returns-4)
+fits-row-spec =
+    tie.close
+    (tie.spec (λ c. search cases) (λ c. search cases) returns-3 (search needs) (λ c. search cases))

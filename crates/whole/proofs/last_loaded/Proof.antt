@@ -9,4 +9,5 @@ returns c = c .reads .ensures
 
 pub last-loaded-spec : {M : Type 1} → statement M
 last-loaded-spec =
-    tie.close (tie.spec (search needs) (search needs) (search needs) (search needs) (search needs) returns)
+    tie.close
+    (tie.spec (search needs) (search needs) (search needs) (search needs) (search needs) returns)
