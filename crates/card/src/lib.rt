@@ -1,16 +1,13 @@
 // One event: numbers 1, 2, 6 and 3, else the turn of its record.
+use model::ANSWER_ROOM;
+use model::AREA_SIZE;
 use model::Card;
 use model::Played;
+use model::RECORD_SIZE;
 ghost use Prim.Native.Nat.{_<_};
 ghost use lib.ListN.{length};
 ghost use Rattle.model.specs.Session.{playOf};
 ghost use Rattle.events.specs.Plays.{Plays};
-
-const AREA_SIZE: usize = 4096;
-
-const ANSWER_ROOM: usize = 64;
-
-const RECORD_SIZE: usize = 260;
 
 // One event: 1, 2, 6, 3, 4, 5 are checked in this order.
 pub fn play(c: Card, area: &mut [u8], answer: &mut [u8], r: &[u8]) -> Played

@@ -17,7 +17,7 @@ use Rattle.model.specs.Rules.{Result, went, failed, does, startupOk, startup, c
 use Rattle.model.specs.declared.Running.{Running}
 use Rattle.model.specs.Loads.{withRunning, runningTaken}
 use Rattle.steps.specs.declared.Course.the-variants.{Keeps, Failed}
-use Rattle.steps.specs.Stages.{Sized}
+use Rattle.steps.specs.Lengths.{Sized}
 use Rattle.steps.specs.Steps.{stateOf, on, startupOf, keptOf, Judges}
 use Rattle.content.specs.Kept.{wordOf}
 

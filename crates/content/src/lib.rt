@@ -11,7 +11,7 @@ ghost use Prim.Native.Nat.{ℕ, _+_, _-_, _*_, _≤_, _<_};
 ghost use lib.ListN.{length, drop};
 ghost use Rattle.lists.specs.Bytes.{padded};
 ghost use Rattle.model.specs.Rules.{counterOf, whole};
-ghost use Rattle.steps.specs.Stages.{Sized};
+ghost use Rattle.steps.specs.Lengths.{Sized};
 ghost use Rattle.steps.specs.Steps.{on, startupOf, keptOf, Judges};
 ghost use Rattle.content.specs.Kept.{wordOf};
 

@@ -48,7 +48,7 @@ fn cut(label: &[u8], job: &[u8], lines: &[u32]) -> u8 {
         intake::say_refused(label, written.number, chip, why, lines);
         return edge::REFUSED;
     }
-    let size = (written.count + FIRST_RECORDS) * job_session::RECORD_SIZE;
+    let size = (written.count + FIRST_RECORDS) * model::RECORD_SIZE;
     print(chip, &room[..size])
 }
 

@@ -14,7 +14,7 @@ use Rattle.cuts.specs.declared.Place.{Place}
 use Rattle.cuts.specs.declared.Step.{Step}
 use Rattle.cuts.specs.Steps.{stepOf}
 use Rattle.cuts.specs.Cuts.{Fitting, unitsOf, unitsFrom, commandsFrom, Filling, Command}
-use Rattle.header.proofs.Units.{units-none}
+use Rattle.model.proofs.Laws.{units-none}
 use Rattle.cuts.proofs.Stepping.{Closes, Takes, Stepped, step-stepped}
 
 -- behind the last byte there is no unit

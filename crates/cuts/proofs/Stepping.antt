@@ -20,7 +20,8 @@ use Rattle.model.specs.Order.{spannable, single, unitsBy, unitsIn, packed}
 use Rattle.cuts.specs.declared.Step.{Step}
 use Rattle.cuts.specs.Steps.{unitStep, groupingStep, headStep, insideStep, stepOf}
 use Rattle.cuts.specs.Cuts.{Fitting, unitsOf}
-use Rattle.header.proofs.Units.{Within, header-within, units-none, units-at}
+use Rattle.header.proofs.Units.{Within, header-within, units-at}
+use Rattle.model.proofs.Laws.{units-none}
 use Rattle.cuts.proofs.Packing.{packed-fits, packed-closes, packed-single, fitting-head, fitting-tail, fitting-single}
 
 -- the command closes here: it has something, and the next one begins with the next unit

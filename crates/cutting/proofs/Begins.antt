@@ -17,8 +17,10 @@ use Rattle.model.specs.Rules.{Result, went, failed, Rule, thence, _>>=_, _>>_, 
 use Rattle.model.specs.Order.{spannable}
 use Rattle.cutting.specs.Bytewise.{Part, between, opened, awaited, started, behind, judgedHead, begun, Misses, shut}
 use Rattle.cutting.specs.Contents.{Each, none, more}
-use Rattle.cutting.proofs.Values.{Closed, length-most, opened-misses, never}
+use Rattle.cutting.proofs.Values.{Closed, opened-misses}
+use Rattle.model.proofs.Laws.{length-most}
 use Rattle.cutting.proofs.Bridge.{passes-true}
+use Rattle.lists.specs.Truth.{never}
 
 -- the three things that a whole header comes to: an error; an open value; a value that is awaited, of at most 64 bytes
 pub data Begins (capacity : ℕ) (h : Head) : Result Part → Type 0 where

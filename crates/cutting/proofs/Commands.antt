@@ -25,10 +25,11 @@ use Rattle.cutting.specs.Job.{stateOf, uncut}
 use Rattle.cutting.proofs.Splits.{run-after, failed-not, asked-not}
 use Rattle.cutting.proofs.Heads.{run-whole}
 use Rattle.cutting.proofs.Walks.{walk-behind, command-run}
-use Rattle.cutting.proofs.Values.{never}
 use Rattle.cutting.proofs.Begins.{begun-query}
 use Rattle.cutting.proofs.Units.{Chain, done, link, units-chain}
-use Rattle.cutting.proofs.Packing.{length-records, few-commands}
+use Rattle.cutting.proofs.Packing.{few-commands}
+use Rattle.lists.specs.Truth.{never}
+use Rattle.model.proofs.Laws.{length-written}
 
 -- a command that passes asks nothing
 asks-not : (capacity b : ℕ) (bs : List ℕ) (s s₁ : State) → s .load .running .pending ≡ Shut → run capacity (b ∷ bs) between s ≡ went between s₁
@@ -139,4 +140,4 @@ module _ (capacity : ℕ) (order : List ℕ) (complete-so : complete capacity or
 
   -- 8,192 bytes are 45 records at most
   pub records-few : length order ≤ orderLimit → length (recordsFor order) ≤ 45
-  records-few l = let f : length (cutOf order) ≤ 44 = few-commands order units-sized l in rw (length-records order) (omega arith)
+  records-few l = let f : length (cutOf order) ≤ 44 = few-commands order units-sized l in rw (length-written order) (omega arith)

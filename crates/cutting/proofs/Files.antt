@@ -25,7 +25,6 @@ use Rattle.model.specs.Session.{freshOf, Session, runOf}
 use Rattle.model.specs.Order.{challengedState, finished, complete, recordsFor, Writing, writeOf}
 use Rattle.cutting.specs.Job.{jobWith, sessionOf, stateOf, uncut, Accepted}
 use Rattle.cutting.specs.Contents.{Grouped, groupedIn, ssnnOf, valuesOf, Each, Contents}
-use Rattle.cutting.proofs.Values.{and-right, never}
 use Rattle.cutting.proofs.Heads.{Long, header-long}
 use Rattle.cutting.proofs.Commands.{finished-ready}
 use Rattle.cutting.proofs.Taken.{cut-same-end}
@@ -34,6 +33,7 @@ use Rattle.cutting.proofs.Laid.{outside-all, zeros-get, length-all, kep
 use Rattle.cutting.proofs.Passed.{both, Passed, grouping-passed}
 use Rattle.cutting.proofs.Listed.{Fits, Gives, Leaving, early-row, before-stays}
 use Rattle.cutting.proofs.Filled.{Filled, Seen, early, late, seen-filled, due-none, taken-high, g, after, record-passed, seen-more}
+use Rattle.lists.specs.Truth.{and-r, never}
 
 -- the groupings from a whole header on
 grouped-more : (fuel b : ℕ) (bs : List ℕ) (h : Head) → headerOf (b ∷ bs) ≡ Whole h
@@ -68,7 +68,7 @@ fits-after capacity h rest s (suc k) f = f
 
 open-unready : (capacity : ℕ) (h : Head) (rest : List ℕ) (s : State) (k : ℕ) → ready (after capacity h rest s (suc k)) ≡ true → ⊥
 unfolding ready recordDone
-open-unready capacity h rest s k e = never (and-right (not (mandatoryMissing (s .load .running .rows))) false e)
+open-unready capacity h rest s k e = never (and-r (not (mandatoryMissing (s .load .running .rows))) false e)
 
 -- what a walk that ends ready has seen
 record Ended (s : State) (gs : List Grouped) : Type 0 where

@@ -13,18 +13,17 @@ use Rattle.model.specs.declared.Descriptor.{Descriptor}
 use Rattle.model.specs.declared.Loading.{Loading}
 use Rattle.model.specs.declared.Open.the-variants.{Record}
 use Rattle.model.specs.declared.Head.{Head}
-use Rattle.model.specs.declared.Spot.{Spot}
-use Rattle.model.specs.declared.Spot.the-variants.{Nowhere, At}
+use Rattle.model.specs.declared.Spot.the-variants.{At}
 use Rattle.model.specs.declared.Verdict.the-variants.{Passes}
 use Rattle.model.specs.Stored.{areaSize}
 use Rattle.model.specs.Rows.{rowTable, rowAt, rowOf, taken, withRow, readyFor, noneFrom, rising, due}
 use Rattle.model.specs.Loads.{State, fileList, withInternal, withOpen, changed}
-use Rattle.model.specs.Rules.{Result, went, asked, failed, tagSpot, laid, roomIn, roomOf, lengthOk, recordDone, recordBytes, fed, spanned, ruleH}
+use Rattle.model.specs.Rules.{Result, went, asked, failed, tagSpot, laid, roomOf, lengthOk, recordDone, recordBytes, fed, spanned, ruleH}
 use Rattle.cutting.specs.Job.{stateOf}
 use Rattle.cutting.specs.Contents.{Grouped, Each}
-use Rattle.cutting.proofs.Values.{and-right, length-most}
-use Rattle.cutting.proofs.Begins.{refuses-not}
+use Rattle.model.proofs.Laws.{length-most, room-spot}
 use Rattle.cutting.proofs.Laid.{laidAll, laid-last, Placed, Rising, none, more, each-last, rising-last}
+use Rattle.lists.specs.Truth.{and-r}
 
 -- the area holds the values of these groupings, and nothing else
 pub record Filled (files : List Descriptor) (gs : List Grouped) (area : List ℕ) : Type 0 where
@@ -48,7 +47,7 @@ seen-filled (late t l f) = f
 -- a row before 11 comes only early
 pub due-none : (rows last row tag : ℕ) → eqb row 11 ≡ false → due rows last row tag ≡ true → noneFrom rows row ≡ true
 unfolding due
-due-none rows last row tag q d = subst (λ (x : Bool). cond x (rising rows last tag) (noneFrom rows row) ≡ true) q (and-right (readyFor rows row) _ d)
+due-none rows last row tag q d = subst (λ (x : Bool). cond x (rising rows last tag) (noneFrom rows row) ≡ true) q (and-r (readyFor rows row) _ d)
 
 pub taken-high : (rows : ℕ) → taken rows 11 ≡ true → 1024 ≤ rows
 unfolding taken
@@ -58,7 +57,7 @@ taken-high rows t = let f : rows / 1024 % 2 ≡ 1 = eqb-true (rows / 1024 % 2) 1
 due-rising : (rows last tag : ℕ) → due rows last 11 tag ≡ true → taken rows 11 ≡ true → last < tag
 unfolding due rising
 due-rising rows last tag d t =
-    ltb-true last tag (subst (λ (x : Bool). not x || ltb last tag ≡ true) t (and-right (readyFor rows 11) (rising rows last tag) d))
+    ltb-true last tag (subst (λ (x : Bool). not x || ltb last tag ≡ true) t (and-r (readyFor rows 11) (rising rows last tag) d))
 
 row-taken : (rows : ℕ) → taken (withRow rows 11) 11 ≡ true
 unfolding withRow
@@ -80,13 +79,9 @@ seen-under {s} tag d (late t l f) =
     each-so (λ (g : Grouped) (p : g .tag ≤ s .load .running .last). omega arith) l
 
 -- rule e found the record
-spot-room : (x : Spot) (room : ℕ) → roomIn x ≡ Passes room → (base : ℕ) × (x ≡ At base room)
-spot-room Nowhere room e = absurd (refuses-not 0x6A88 room e)
-spot-room (At base size) room e = let q : size ≡ room = cc in (base, ap (At base) q)
-
-room-spot : (files : List Descriptor) (row tag room : ℕ) → eqb row 11 ≡ true → roomOf files row tag ≡ Passes room → (base : ℕ) × (tagSpot files tag ≡ At base room)
+record-room : (files : List Descriptor) (row tag room : ℕ) → eqb row 11 ≡ true → roomOf files row tag ≡ Passes room → (base : ℕ) × (tagSpot files tag ≡ At base room)
 unfolding roomOf
-room-spot files row tag room q e = spot-room (tagSpot files tag) room (rw q at e)
+record-room files row tag room q e = room-spot (tagSpot files tag) room (rw q at e)
 
 -- one more value
 filled-more : (files : List Descriptor) (gs : List Grouped) (g : Grouped) (area : List ℕ) → Filled files gs area → Placed files g
@@ -131,7 +126,7 @@ module _ (capacity : ℕ) (h : Head) (rest : List ℕ) (s : State) where
   unfolding recordDone
   seen-more {gs} room q d r o sn =
       let row : rowOf (h .tag) ≡ 11 = eqb-true (rowOf (h .tag)) 11 q in
-      let at : (base : ℕ) × (tagSpot (fileList (s .load)) (h .tag) ≡ At base room) = room-spot (fileList (s .load)) (rowOf (h .tag)) (h .tag) room q r in
+      let at : (base : ℕ) × (tagSpot (fileList (s .load)) (h .tag) ≡ At base room) = record-room (fileList (s .load)) (rowOf (h .tag)) (h .tag) room q r in
       let u : Each (λ (x : Grouped). x .tag < h .tag) gs = seen-under (h .tag) (subst (λ (i : ℕ). due (s .load .running .rows) (s .load .running .last) i (h .tag) ≡ true) row d) sn in
       let l : h .len ≤ room = length-most (rowOf (h .tag)) room (h .len) o in
       let n : length (take (h .len) rest) ≡ Prim.Native.Nat.min (h .len) (length rest) = length-take (h .len) rest in

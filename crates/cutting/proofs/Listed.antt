@@ -24,7 +24,7 @@ use Rattle.model.specs.Table.{tableLimit, accessesOk, dfOk, efOk, sizeOf, rules
 use Rattle.model.specs.Loads.{State, fileList, withOpen, withTaken, changed}
 use Rattle.model.specs.Rules.{Result, went, asked, failed, Rule, thence, _>>_, does, described, startupOk, startup, kept, tableDone, tableByte, inTable, tableBytes, fed, spanned, whole, ruleH}
 use Rattle.cutting.proofs.Opened.{Leaves}
-use Rattle.cutting.proofs.Values.{and-left, never}
+use Rattle.lists.specs.Truth.{and-l, never}
 
 -- the file table: 31 places, and the files that it lists fit in the file area
 pub record Fits (files : List Descriptor) (count : ℕ) : Type 0 where
@@ -49,7 +49,7 @@ fits-more files count n d e f =
     let a : (rulesOk d (take count files) ≡ true) × (leb (total (take count files) + sizeOf d) areaSize ≡ true) =
     admitted (rulesOk d (take count files)) (leb (total (take count files) + sizeOf d) areaSize) 0x6A84 0x6A80 n e in
     let few : length (take count files) < tableLimit = ltb-true (length (take count files)) tableLimit
-    (and-left _ (accessesOk (d .ac) (d .nkey)) (and-left _ (cond (eqb (length (take count files)) 0) (dfOk d) (efOk d (take count files))) (a .0))) in
+    (and-l _ (accessesOk (d .ac) (d .nkey)) (and-l _ (cond (eqb (length (take count files)) 0) (dfOk d) (efOk d (take count files))) (a .0))) in
     let long : length (take count files) ≡ Prim.Native.Nat.min count (length files) = length-take count files in
     let here : length files ≡ 31 = f .places in
     let room : total (take count files) + sizeOf d ≤ areaSize = leb-true (total (take count files) + sizeOf d) areaSize (a .1) in

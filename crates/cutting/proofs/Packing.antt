@@ -14,7 +14,7 @@ use Rattle.model.specs.declared.Header.{Header}
 use Rattle.model.specs.declared.Header.the-variants.{Torn, Whole}
 use Rattle.model.specs.Stored.{dataRoom}
 use Rattle.model.specs.Header.{headerOf}
-use Rattle.model.specs.Order.{spannable, single, groupingUnits, unitsBy, unitsIn, packed, cutOf, storedAll, recordsFor}
+use Rattle.model.specs.Order.{spannable, single, groupingUnits, unitsBy, unitsIn, packed, cutOf}
 use Rattle.cutting.specs.Packs.{joined, Packs, last, next, longestUnit, Sized, more}
 use Rattle.cutting.proofs.Heads.{Long, header-long}
 
@@ -105,16 +105,6 @@ packs-few (next us c u vs cs e l p) h =
     let m : length u ≤ longestUnit = first-most u vs k in
     let f : length cs * 187 ≤ length (joined cs) + 187 = packs-few p k in
     rw (joined-more c cs, length-append c (joined cs)) (omega arith)
-
-pub length-stored : (cs : List (List ℕ)) → length (storedAll cs) ≡ length cs
-unfolding storedAll
-length-stored [] = refl
-length-stored (c ∷ []) = refl
-length-stored (c ∷ d ∷ cs) = ap suc (length-stored (d ∷ cs))
-
-pub length-records : (order : List ℕ) → length (recordsFor order) ≡ suc (length (cutOf order))
-unfolding recordsFor
-length-records order = ap suc (length-stored (cutOf order))
 
 -- 8,192 bytes in units of at most 69 are 44 commands at most
 pub few-commands : (order : List ℕ) → Sized 1 longestUnit (unitsIn (length order) order) → length order ≤ 8192 → length (cutOf order) ≤ 44

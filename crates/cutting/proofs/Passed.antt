@@ -1,11 +1,10 @@
 -- What a grouping that the published walk passes has been found to be.
 use Prim.Native.Nat.{ℕ, _-_}
 use mathlib.Core.Path.{_≡_, refl, subst}
-use mathlib.Core.Bool.{Bool, true, false, cond, not, _&&_, _||_}
+use mathlib.Core.Bool.{Bool, true, false, cond, _||_}
 use mathlib.Core.List.{List}
 use lib.Dec.{eqb, leb}
 use lib.ListN.{length, drop}
-use Rattle.lists.specs.Choice.{by-cond}
 use Rattle.model.specs.declared.Head.{Head}
 use Rattle.model.specs.declared.Header.{Header}
 use Rattle.model.specs.declared.Header.the-variants.{Torn, Whole}
@@ -14,10 +13,12 @@ use Rattle.model.specs.declared.Verdict.the-variants.{Passes, Refuses}
 use Rattle.model.specs.Rows.{rowAt, rowOf, due}
 use Rattle.model.specs.Header.{headerOf}
 use Rattle.model.specs.Loads.{State, fileList, withInternal, changed}
-use Rattle.model.specs.Rules.{Result, went, asked, failed, Rule, thence, _>>=_, _>>_, judged, unless, wholeHead, ruleA, isQuery, aloneAtStart, bit1, bit8, challenged, query, ruleB, ruleC, dueRow, ruleD, roomOf, ruleE, lengthOk, ruleF, ruleG, ruleH, grouping}
+use Rattle.model.specs.Rules.{Result, went, asked, failed, Rule, thence, judged, unless, wholeHead, ruleA, isQuery, query, ruleB, ruleC, dueRow, ruleD, roomOf, ruleE, lengthOk, ruleF, ruleG, ruleH, grouping}
 use Rattle.cutting.proofs.Bridge.{passes-true}
 use Rattle.cutting.proofs.Begins.{due-row}
 use Rattle.cutting.proofs.Splits.{failed-not, asked-not}
+use Rattle.model.specs.Stages.{fromB, fromD, fromF}
+use Rattle.model.proofs.Laws.{Stops, query-stops}
 
 -- two rules that both went on
 pub record Both {A B : Type 0} (r : Result A) (k : A → Rule B) (b : B) (s′ : State) : Type 0 where
@@ -40,27 +41,10 @@ after-refusal : {B : Type 0} (x : Bool) (w : ℕ) (s s₁ : State) (k : Rule B) 
 after-refusal true w s s₁ k b s′ e = absurd (failed-not w s s′ b e)
 after-refusal false w s s₁ k b s′ e = e
 
--- a query never goes on
-abbrev Stops : {A : Type 0} → Result A → Type 0
-Stops (went a s) = ⊥
-Stops (asked t s) = Unit {0}
-Stops (failed w s) = Unit {0}
-
 stopped : {A B : Type 0} (r : Result A) (k : A → Rule B) (b : B) (s′ : State) → Stops r → thence r k ≡ went b s′ → ⊥
 stopped (went a s) k b s′ h e = h
 stopped (asked t s) k b s′ h e = asked-not t s s′ b e
 stopped (failed w s) k b s′ h e = failed-not w s s′ b e
-
-query-stops : (n p1 : ℕ) (bytes : List ℕ) (h : Head) (s : State) → Stops (query n p1 bytes h s)
-unfolding query challenged
-query-stops n p1 bytes h s =
-    by-cond Stops (aloneAtStart n bytes h)
-    (λ a. by-cond Stops (bit1 p1 && not (bit8 p1))
-    (λ b. by-cond Stops (eqb (h .tag) 0x9484)
-    (λ c. by-cond Stops (eqb (s .load .running .internal) 0xCC && due (s .load .running .rows) (s .load .running .last) 1 0x9484) (λ d. tt) (λ d. tt))
-    (λ c. tt))
-    (λ b. tt))
-    (λ a. tt)
 
 after-b : {B : Type 0} (n p1 : ℕ) (bytes : List ℕ) (h : Head) (s : State) (k : Rule B) (b : B) (s′ : State)
     → thence (ruleB n p1 bytes h s) (λ a. k) ≡ went b s′ → k s ≡ went b s′
@@ -85,20 +69,8 @@ module _ (capacity n p1 : ℕ) (bytes : List ℕ) (s : State) (left : List ℕ) 
   abbrev s₀ : State
   s₀ = changed (withInternal 0x5A) s
 
-  abbrev fromF : Head → ℕ → ℕ → Rule (List ℕ)
-  fromF h row room = do
-    ruleF row room (h .len)
-    ruleG row (h .len) (length bytes - h .size)
-    ruleH capacity row h (drop (h .size) bytes)
-
-  abbrev fromD : Head → Rule (List ℕ)
-  fromD h = do
-    row ← ruleD (h .tag)
-    room ← ruleE row (h .tag)
-    fromF h row room
-
   -- f and g
-  after-f : (h : Head) (row room : ℕ) → fromF h row room s₀ ≡ went left s′
+  after-f : (h : Head) (row room : ℕ) → fromF capacity row room h bytes s₀ ≡ went left s′
       → (lengthOk row room (h .len) ≡ true) × (ruleH capacity row h (drop (h .size) bytes) s₀ ≡ went left s′)
   unfolding ruleF ruleG
   after-f h row room e =
@@ -107,7 +79,7 @@ module _ (capacity n p1 : ℕ) (bytes : List ℕ) (s : State) (left : List ℕ) 
       (passes-true (lengthOk row room (h .len)) 0x6700 (f .0) (f .1), g .2)
 
   -- d and e
-  after-d : (h : Head) → headerOf bytes ≡ Whole h → fromD h s₀ ≡ went left s′ → Passed capacity bytes s left s′
+  after-d : (h : Head) → headerOf bytes ≡ Whole h → fromD capacity h bytes s₀ ≡ went left s′ → Passed capacity bytes s left s′
   unfolding ruleD dueRow ruleE
   after-d h q e =
       let d = after-verdict (dueRow (s .load .running .rows) (s .load .running .last) (h .tag)) s₀ _ left s′ e in
@@ -126,17 +98,11 @@ module _ (capacity n p1 : ℕ) (bytes : List ℕ) (s : State) (left : List ℕ) 
       }
 
   -- c
-  after-c : (h : Head) → headerOf bytes ≡ Whole h → thence (ruleC s) (λ a. fromD h) ≡ went left s′ → Passed capacity bytes s left s′
+  after-c : (h : Head) → headerOf bytes ≡ Whole h → thence (ruleC s) (λ a. fromD capacity h bytes) ≡ went left s′ → Passed capacity bytes s left s′
   unfolding ruleC
-  after-c h q e = after-d h q (after-refusal (eqb (s .load .running .internal) 0xA5) 0x6985 s s₀ (fromD h) left s′ e)
+  after-c h q e = after-d h q (after-refusal (eqb (s .load .running .internal) 0xA5) 0x6985 s s₀ (fromD capacity h bytes) left s′ e)
 
-  abbrev fromB : Head → Rule (List ℕ)
-  fromB h = do
-    ruleB n p1 bytes h
-    ruleC
-    fromD h
-
-  after-a : (x : Header) → headerOf bytes ≡ x → thence (wholeHead x s) fromB ≡ went left s′ → Passed capacity bytes s left s′
+  after-a : (x : Header) → headerOf bytes ≡ x → thence (wholeHead x s) (λ h. fromB capacity n p1 h bytes) ≡ went left s′ → Passed capacity bytes s left s′
   after-a Torn q e = absurd (failed-not 0x6A80 s s′ left e)
   after-a (Whole h) q e = after-c h q (after-b n p1 bytes h s _ left s′ e)
 

@@ -24,21 +24,18 @@ use Rattle.cutting.specs.Job.{instanceName, installData, installRecord, 
 use Rattle.cutting.proofs.Stored.{turn-stored}
 use Rattle.cutting.proofs.Units.{Chain, done, link}
 use Rattle.cutting.proofs.Commands.{command-passes}
+use Rattle.lists.specs.Truth.{same-if}
 
 -- a run that stands at a state of the loading part
 abbrev pub runAt : List ℕ → Chip → State → Run
 runAt ws chip s = record { words = ws; card = jobCard chip s; area = s .area }
-
-cond-same : {A : Type 0} (b : Bool) (x : A) → cond b x x ≡ x
-cond-same true x = refl
-cond-same false x = refl
 
 -- a STORE DATA that passes
 event-stores : (chip : Chip) (p1 : ℕ) (d : List ℕ) (s : State) → 1 ≤ length d
     → event (record { kind = 2; p1 = p1; bytes = d }) (jobCard chip s) (s .area) ≡ commanded (jobCard chip s) (command (chip .capacity) p1 d s)
 unfolding event personalizing otherwise storeData
 event-stores chip p1 d s l =
-    rw (cond-same (eqb (s .load .running .internal) 0x5A), ne-eqb (length d) 0 (λ (e : length d ≡ 0). omega arith))
+    rw (same-if (eqb (s .load .running .internal) 0x5A), ne-eqb (length d) 0 (λ (e : length d ≡ 0). omega arith))
 
 turn-stores : (chip : Chip) (p1 n : ℕ) (u : List ℕ) (s s₁ : State) → Misses (s .load .running .pending) n → 1 ≤ length u → run (chip .capacity) u between s ≡ went between s₁
     → turnOf (jobCard chip s) (s .area) (stored p1 u) ≡ replied (commanded (jobCard chip s) (theEnd p1 s₁))

@@ -13,7 +13,7 @@ use Rattle.model.specs.declared.Spot.{Spot}
 use Rattle.model.specs.declared.Spot.the-variants.{Nowhere, At}
 use Rattle.model.specs.Table.{binary, simulated, sizeOf, total, spotIn, spotFrom, spotOf}
 use Rattle.model.specs.Rules.{tagSpot}
-use Rattle.cutting.proofs.Values.{and-left, and-right}
+use Rattle.lists.specs.Truth.{and-l, and-r}
 
 nowhere-not : (b z : ℕ) → Nowhere ≡ At b z → ⊥
 nowhere-not b z e = subst Is e tt
@@ -48,7 +48,7 @@ in-file false y false true base nn big rec num b z f e =
 pub spot-in : (d : Descriptor) (base nn b z : ℕ) → spotIn d base nn ≡ At b z → Within base (sizeOf d) b z
 spot-in d base nn b z e =
     in-file (eqb (d .eftype) binary) (eqb nn 0) (eqb (d .eftype) simulated) (leb 1 nn && leb nn (d .numrec)) base nn (256 * d .recsize + d .numrec) (d .recsize) (d .numrec) b z
-    (λ q. (leb-true 1 nn (and-left _ (leb nn (d .numrec)) q), leb-true nn (d .numrec) (and-right (leb 1 nn) _ q))) e
+    (λ q. (leb-true 1 nn (and-l _ (leb nn (d .numrec)) q), leb-true nn (d .numrec) (and-r (leb 1 nn) _ q))) e
 
 pub spot-within : (files : List Descriptor) (base sfi nn b z : ℕ) → spotFrom files base sfi nn ≡ At b z → Within base (total files) b z
 unfolding spotFrom total
@@ -104,7 +104,7 @@ one-file : (d : Descriptor) (base m n b z c g : ℕ) → (m ≡ n → ⊥) → s
 one-file d base m n b z c g h p q =
     two-records (eqb (d .eftype) binary) (eqb m 0) (eqb n 0) (eqb (d .eftype) simulated) (leb 1 m && leb m (d .numrec)) (leb 1 n && leb n (d .numrec)) base m n (sizeOf d) (d .recsize) b z c g
     (λ i j. h (eqb-true m 0 i ∙ sym (eqb-true n 0 j)))
-    (λ i. leb-true 1 m (and-left _ (leb m (d .numrec)) i)) (λ i. leb-true 1 n (and-left _ (leb n (d .numrec)) i)) h p q
+    (λ i. leb-true 1 m (and-l _ (leb m (d .numrec)) i)) (λ i. leb-true 1 n (and-l _ (leb n (d .numrec)) i)) h p q
 
 spots-apart : (files : List Descriptor) (base s m t n b z c g : ℕ) → (s ≡ t → m ≡ n → ⊥)
     → spotFrom files base s m ≡ At b z → spotFrom files base t n ≡ At c g → Apart b z c g

@@ -1,12 +1,12 @@
 -- An event as a record, and read from it again; records end to end, and apart again.
-use Prim.Native.Nat.{ℕ, zero, suc, _+_, _-_, _*_, _≤_}
+use Prim.Native.Nat.{ℕ, suc, _+_, _-_, _*_, _≤_}
 use mathlib.Core.Path.{_≡_, refl, ap, ap₂}
 use mathlib.Core.Bool.{true}
 use mathlib.Core.List.{List, [], _∷_, map}
 use native.Mathlib.Omega.{arith}
 use lib.ListN.{length, length-append, length-replicate}
 use lib.Seq.{take-append-seam, drop-append-seam, take-at, drop-at}
-use Rattle.lists.specs.Bytes.{byteAt, zeros, allZero}
+use Rattle.lists.specs.Bytes.{byteAt, zeros, zeros-zero}
 use Rattle.model.specs.declared.Card.{Card}
 use Rattle.model.specs.Stored.{Event, eventIn, isKind, paddedZero, recordOf, recordSize, dataRoom}
 use Rattle.model.specs.Events.{event}
@@ -26,11 +26,6 @@ event-back e = rw (take-append-seam (e .bytes) (zeros (256 - length (e .bytes)))
 
 data-stored : (p1 : ℕ) (d : List ℕ) → dataIn (stored p1 d) ≡ d
 data-stored p1 d = ap (λ (e : Event). e .bytes) (event-back (record { kind = 2; p1 = p1; bytes = d }))
-
-zeros-zero : (n : ℕ) → allZero (zeros n) ≡ true
-unfolding allZero
-zeros-zero zero = refl
-zeros-zero (suc n) = zeros-zero n
 
 past : (n : ℕ) → 4 + n ≡ suc (suc (suc (suc n)))
 past n = omega arith

@@ -16,15 +16,15 @@ use Rattle.model.specs.Loads.{State, withInternal, changed}
 use Rattle.model.specs.Command.{ready}
 use Rattle.model.specs.Sound.{sound, soundWith, secretsOk}
 use Rattle.model.specs.Session.{Run, runFrom, eventsIn, runOf}
-use Rattle.model.specs.Order.{challengedState, complete, cutOf, stored, storedAll, recordsFor}
+use Rattle.model.specs.Order.{challengedState, complete, cutOf, storedAll, recordsFor}
 use Rattle.cutting.specs.Packs.{joined, Sized, none, more}
 use Rattle.cutting.specs.Job.{installRecord, selectRecord, jobWith, sessionOf, jobCard, uncut, Taken}
-use Rattle.cutting.proofs.Values.{never}
 use Rattle.cutting.proofs.Units.{Chain, done, link}
 use Rattle.cutting.proofs.Stored.{record-length, joined-length, joined-apart}
 use Rattle.cutting.proofs.Commands.{cut-chain, cut-sized, complete-ready, not-ready}
-use Rattle.cutting.proofs.Packing.{length-stored}
+use Rattle.model.proofs.Laws.{length-all, length-stored}
 use Rattle.cutting.proofs.Played.{runAt, loaded, takes-all, asking, begun-all}
+use Rattle.lists.specs.Truth.{never}
 
 -- a session of whole records, that a sound card runs
 run-whole-records : (c : Card) (a : List ℕ) (room : ℕ) (rs : List (List ℕ)) → length a ≡ areaSize → sound c ≡ true → Sized recordSize recordSize rs → length rs ≤ room
@@ -41,22 +41,19 @@ unfolding soundWith freshCard secretsOk tablePasses taken
 fresh-sound chip = refl
 
 -- the job's records have 260 bytes each
-stored-size : (p1 : ℕ) (d : List ℕ) → length d ≤ dataRoom → length (stored p1 d) ≡ recordSize
-stored-size p1 d h = record-length (record { kind = 2; p1 = p1; bytes = d }) h
-
 sized-one : (r : List ℕ) (rs : List (List ℕ)) → length r ≡ recordSize → Sized recordSize recordSize rs → Sized recordSize recordSize (r ∷ rs)
 sized-one r rs e z = let l : recordSize ≤ length r = omega arith in let m : length r ≤ recordSize = omega arith in more l m z
 
 stored-sized : (cs : List (List ℕ)) → Sized 1 dataRoom cs → Sized recordSize recordSize (storedAll cs)
 unfolding storedAll
 stored-sized [] z = none
-stored-sized (c ∷ []) (more l m z) = sized-one _ _ (stored-size 0x80 c m) none
-stored-sized (c ∷ d ∷ cs) (more l m z) = sized-one _ _ (stored-size 0x00 c m) (stored-sized (d ∷ cs) z)
+stored-sized (c ∷ []) (more l m z) = sized-one _ _ (length-stored 0x80 c m) none
+stored-sized (c ∷ d ∷ cs) (more l m z) = sized-one _ _ (length-stored 0x00 c m) (stored-sized (d ∷ cs) z)
 
 job-sized : (order : List ℕ) → Sized 1 dataRoom (cutOf order) → Sized recordSize recordSize (jobWith (recordsFor order))
 unfolding jobWith recordsFor installRecord selectRecord
 job-sized order z =
-    sized-one _ _ (record-length _ (lit≤ tt)) (sized-one _ _ (record-length _ (lit≤ tt)) (sized-one _ _ (stored-size 0x01 asking (lit≤ tt)) (stored-sized (cutOf order) z)))
+    sized-one _ _ (record-length _ (lit≤ tt)) (sized-one _ _ (record-length _ (lit≤ tt)) (sized-one _ _ (length-stored 0x01 asking (lit≤ tt)) (stored-sized (cutOf order) z)))
 
 -- a chain that ends loaded, where it does not begin so, has a command
 chain-some : {capacity : ℕ} {s s′ : State} {us : List (List ℕ)} → Chain capacity dataRoom s us s′ → ready s ≡ false → ready s′ ≡ true → 1 ≤ length us
@@ -72,7 +69,7 @@ module _ (chip : Chip) (order : List ℕ) (complete-so : complete (chip .capacit
   job-played a =
       begun-all chip a (storedAll (cutOf order))
       ∙ takes-all chip chain (chain-some chain not-ready (complete-ready (chip .capacity) order complete-so)) (complete-ready (chip .capacity) order complete-so) (replicate 3 0x9000)
-      ∙ ap (λ (n : ℕ). runAt (replicate 3 0x9000 ++ replicate n 0x9000) chip (loaded (uncut (chip .capacity) order))) (sym (length-stored (cutOf order)))
+      ∙ ap (λ (n : ℕ). runAt (replicate 3 0x9000 ++ replicate n 0x9000) chip (loaded (uncut (chip .capacity) order))) (sym (length-all (cutOf order)))
     where
       chain : Chain (chip .capacity) dataRoom challengedState (cutOf order) (uncut (chip .capacity) order)
       chain = cut-chain (chip .capacity) order complete-so

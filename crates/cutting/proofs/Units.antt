@@ -23,6 +23,7 @@ use Rattle.cutting.proofs.Opened.{misses-none, Leaves, Rests, step-rest
 use Rattle.cutting.proofs.Heads.{run-torn, run-whole, run-head, Long, header-long}
 use Rattle.cutting.proofs.Values.{Closed, kept-closed, value-whole, awaited-whole, awaited-short}
 use Rattle.cutting.proofs.Begins.{Begins, fails, opens, awaits, begins-so}
+use Rattle.model.proofs.Laws.{units-none}
 
 -- lists of bytes, each of at least 1 and at most `most`, that each take the walk from between groupings to between groupings, and the
 -- states that they lead from and to
@@ -33,11 +34,6 @@ pub data Chain (capacity most : ℕ) : State → List (List ℕ) → State → T
 
 closed-misses : (s : State) → Closed s → Misses (s .load .running .pending) 0
 closed-misses s c = subst (λ (o : Open). Misses o 0) (sym c) shut
-
-units-none : (fuel : ℕ) → unitsIn fuel [] ≡ []
-unfolding unitsIn
-units-none zero = refl
-units-none (suc fuel) = refl
 
 module _ (capacity fuel : ℕ) (s′ : State) where
   -- the units behind a value, from where it leaves the walk

@@ -5,7 +5,7 @@ use mathlib.Core.Bool.{Bool, true, false, _&&_}
 use mathlib.Core.List.{List, [], _∷_, _++_, append-nil, append-assoc}
 use native.Mathlib.Omega.{arith}
 use native.Mathlib.Nat.{suc-sub-suc, sub-zero}
-use lib.Dec.{T, eqb, leb, lit≤}
+use lib.Dec.{eqb, leb, lit≤}
 use lib.ListN.{length, take, drop, take-append-drop}
 use lib.Seq.{length-take-le}
 use borrow.Author.Tests.{leb-true, eqb-true}
@@ -17,6 +17,7 @@ use Rattle.model.specs.Loads.{State}
 use Rattle.model.specs.Rules.{went, failed, Rule, thence, lengthOk, startupOk, startup, kept, openedAs}
 use Rattle.cutting.specs.Bytewise.{value, ending, awaited, step, run, atEnd, Misses, table, stored}
 use Rattle.cutting.proofs.Opened.{Leaves}
+use Rattle.lists.specs.Truth.{and-l, and-r}
 
 -- the last byte of a value, and those before
 pub value-whole : (capacity row n : ℕ) (v u rest : List ℕ) (s : State) → length v ≡ suc n
@@ -64,25 +65,11 @@ kept-closed capacity row v s e =
     (λ f. by-cond (λ (m : Rule ℕ). Leaves Closed (m s)) (eqb row 4) (λ g. e) (λ g. e)))
 
 -- the parts of rule f, and of a conjunction
-pub never : false ≡ true → ⊥
-never q = subst T (sym q) tt
-
-pub and-left : (a b : Bool) → a && b ≡ true → a ≡ true
-and-left true b h = refl
-and-left false b h = h
-
-pub and-right : (a b : Bool) → a && b ≡ true → b ≡ true
-and-right true b h = h
-and-right false b h = cc
-
 pub length-least : (row room len : ℕ) → lengthOk row room len ≡ true → rowAt row .least ≤ len
-length-least row room len h = leb-true (rowAt row .least) len (and-left _ (leb len room) (and-left _ (eqb (len % rowAt row .step) 0) h))
-
-pub length-most : (row room len : ℕ) → lengthOk row room len ≡ true → len ≤ room
-length-most row room len h = leb-true len room (and-right (leb (rowAt row .least) len) _ (and-left _ (eqb (len % rowAt row .step) 0) h))
+length-least row room len h = leb-true (rowAt row .least) len (and-l _ (leb len room) (and-l _ (eqb (len % rowAt row .step) 0) h))
 
 length-step : (row room len : ℕ) → lengthOk row room len ≡ true → eqb (len % rowAt row .step) 0 ≡ true
-length-step row room len h = and-right (leb (rowAt row .least) len && leb len room) _ h
+length-step row room len h = and-r (leb (rowAt row .least) len && leb len room) _ h
 
 -- '3100' is not empty, and holds whole descriptors
 table-some : (row room : ℕ) → row ≡ 5 → lengthOk row room 0 ≡ true → ⊥

@@ -25,8 +25,9 @@ use Rattle.model.specs.declared.Life.{Life}
 use Rattle.cutting.specs.Bytewise.{between, run, atEnd, step, asks, Misses, shut, table, stored}
 use Rattle.cutting.proofs.Splits.{thence-assoc}
 use Rattle.cutting.proofs.Opened.{misses-none, fed-shut, fed-none, fed-step, step-rests, Agrees, fed-then, fed-run}
-use Rattle.cutting.proofs.Values.{Closed, never, and-left, and-right}
+use Rattle.cutting.proofs.Values.{Closed}
 use Rattle.cutting.proofs.Bridge.{Plain, plain-behind, plain-other, grouping-run, grouping-torn}
+use Rattle.lists.specs.Truth.{never, and-l, and-r}
 
 -- the walk over what is left, and then `k`
 abbrev walkThen : {B : Type 0} → ℕ → ℕ → ℕ → ℕ → Rule B → List ℕ → Rule B
@@ -106,12 +107,12 @@ command-run capacity p1 (suc n) (b ∷ bs) s m q =
 fits-table : (l : Loading) (held missing : ℕ) → pendingFits (Table held missing) l ≡ true → leb 1 missing ≡ true → Misses (Table held missing) missing
 fits-table l held zero f q = absurd (never q)
 fits-table l held (suc n) f q =
-    let a : (l .count * 18 + held + suc n) % 18 ≡ 0 = eqb-true ((l .count * 18 + held + suc n) % 18) 0 (and-right (leb (l .count * 18 + held + suc n) 558) _ (and-left _ (ltb held 18) fits)) in
-    let c : held < 18 = ltb-true held 18 (and-right (leb (l .count * 18 + held + suc n) 558 && eqb ((l .count * 18 + held + suc n) % 18) 0) (ltb held 18) fits) in
+    let a : (l .count * 18 + held + suc n) % 18 ≡ 0 = eqb-true ((l .count * 18 + held + suc n) % 18) 0 (and-r (leb (l .count * 18 + held + suc n) 558) _ (and-l _ (ltb held 18) fits)) in
+    let c : held < 18 = ltb-true held 18 (and-r (leb (l .count * 18 + held + suc n) 558 && eqb ((l .count * 18 + held + suc n) % 18) 0) (ltb held 18) fits) in
     table {held = held} {n = n} (omega arith) (omega arith)
   where
     fits : tableFits (l .count) held (suc n) ≡ true
-    fits = and-right (not (taken (l .running .rows) 5)) (tableFits (l .count) held (suc n)) f
+    fits = and-r (not (taken (l .running .rows) 5)) (tableFits (l .count) held (suc n)) f
 
 fits-misses : (o : Open) (l : Loading) → pendingFits o l ≡ true → someMissing o ≡ true → (n : ℕ) × Misses o n
 fits-misses Shut l f q = (0, shut)
@@ -129,8 +130,8 @@ pub sound-misses : (c : Card) → sound c ≡ true → (n : ℕ) × Misses (c .l
 unfolding soundWith
 sound-misses c h =
     fits-misses (c .loading .running .pending) (c .loading)
-    (and-right (besides (c .life) (c .loading)) (pendingFits (c .loading .running .pending) (c .loading)) (and-left (besides (c .life) (c .loading) && pendingFits (c .loading .running .pending) (c .loading)) (someMissing (c .loading .running .pending)) h))
-    (and-right (besides (c .life) (c .loading) && pendingFits (c .loading .running .pending) (c .loading)) (someMissing (c .loading .running .pending)) h)
+    (and-r (besides (c .life) (c .loading)) (pendingFits (c .loading .running .pending) (c .loading)) (and-l (besides (c .life) (c .loading) && pendingFits (c .loading .running .pending) (c .loading)) (someMissing (c .loading .running .pending)) h))
+    (and-r (besides (c .life) (c .loading) && pendingFits (c .loading .running .pending) (c .loading)) (someMissing (c .loading .running .pending)) h)
 
 -- the bridge on a sound card
 pub command-sound : (c : Card) (area : List ℕ) (p1 : ℕ) (bytes : List ℕ) → sound c ≡ true → asks (c .loading .running .pending) bytes ≡ false

@@ -1,13 +1,11 @@
 // One descriptor of the file table: its fields judged, and beside another one.
+use model::BINARY;
 use model::Descriptor;
+use model::SIMULATED;
 ghost use mathlib.Core.Path.{_≡_};
 ghost use Prim.Native.Nat.{_<_};
 ghost use Rattle.descriptor.specs.Fields.{efFields};
 ghost use Rattle.model.specs.Table.{dfOk, efType, clash, counterIn};
-
-const BINARY: u8 = 0x01;
-
-const SIMULATED: u8 = 0x08;
 
 const COUNTERS: u8 = 0x09;
 

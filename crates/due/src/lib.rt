@@ -1,11 +1,10 @@
 // When a row may come: the order of the rows.
+use model::RECORD_ROW;
 use model::Verdict;
 ghost use mathlib.Core.Path.{_≡_};
 ghost use Prim.Native.Nat.{_-_, _≤_, _<_};
 ghost use Rattle.model.specs.Rows.{rising, due};
 ghost use Rattle.model.specs.Rules.{dueRow};
-
-const RECORD_ROW: usize = 11;
 
 fn is_rising(rows: u16, last: u16, tag: u16) -> bool
     ensures { λ x. ⌜ x ≡ rising rows last tag ⌝ }

@@ -1,11 +1,10 @@
 // The last line: END and the number of events.
+use model::END_SIZE;
 ghost use mathlib.Core.Path.{_≡_};
 ghost use Prim.Native.Nat.{_+_, _≤_};
 ghost use lib.ListN.{length};
 ghost use Rattle.lists.specs.Over.{overwrite};
 ghost use Rattle.model.specs.Lines.{endOf};
-
-pub const END_SIZE: usize = 10;
 
 const LINE_FEED: u8 = 0x0A;
 

@@ -12,7 +12,7 @@ use Rattle.model.specs.Sound.{selectedOk}
 use Rattle.soundness.specs.Keeps.{Good}
 use Rattle.soundness.proofs.Inside.{Steady, steady-of}
 use Rattle.soundness.proofs.Parts.{sound-parts}
-use Rattle.soundness.proofs.Tests.{and-r}
+use Rattle.lists.specs.Truth.{and-r}
 
 name-most : (b : Bool) (n : ℕ) → cond b (eqb n 0) (leb 5 n && leb n 16) ≡ true → n ≤ 16
 name-most true n e = let z : n ≡ 0 = eqb-true n 0 e in omega arith

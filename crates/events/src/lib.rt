@@ -2,6 +2,7 @@
 use life::Lived;
 use model::Card;
 use model::Life;
+use model::STORE_DATA;
 use select::Replied as Selected;
 ghost use mathlib.Core.Path.{_≡_};
 ghost use mathlib.Core.Bool.{Bool, true, false, cond};
@@ -16,8 +17,6 @@ ghost use Rattle.soundness.specs.Keeps.{Good};
 ghost use Rattle.fci.specs.Answers.{Answers};
 ghost use Rattle.kinds.specs.Faults.{eventOf};
 ghost use Rattle.events.specs.Lives.{isCommand, livedAs, alike};
-
-const STORE_DATA: u8 = 2;
 
 const SELECT: u8 = 3;
 

@@ -15,7 +15,7 @@ use Rattle.soundness.proofs.Opened.{table-facts}
 use Rattle.soundness.proofs.Feeding.{Misses, Fed, tableBytes-fed}
 use borrow.Author.Tests.{ne-eqb, ltb-true}
 use Rattle.lists.specs.Choice.{by-cond}
-use Rattle.soundness.proofs.Tests.{and-l}
+use Rattle.lists.specs.Truth.{and-l}
 use Rattle.lists.specs.Over.{overwrite}
 use Rattle.model.specs.declared.Loading.{Loading}
 use Rattle.model.specs.declared.Descriptor.{Descriptor}

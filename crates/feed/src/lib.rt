@@ -3,6 +3,7 @@ use model::Descriptor;
 use model::Loading;
 use model::Open;
 use model::Running;
+use model::TABLE_ROW;
 use model::Verdict;
 ghost use mathlib.Core.Path.{_≡_};
 ghost use mathlib.Core.List.{List, []};
@@ -16,8 +17,6 @@ ghost use Rattle.model.specs.Rules.{fed};
 ghost use Rattle.soundness.proofs.Feeding.{Fed};
 ghost use Rattle.steps.specs.Steps.{stateOf, missingIn};
 ghost use Rattle.feed.specs.Bytes.{heldOf, tableRun, fedAs, Reaches};
-
-const TABLE_ROW: usize = 5;
 
 // A value's bytes taken, or refused by a word, and the loading part.
 pub struct Taken {

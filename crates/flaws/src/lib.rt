@@ -1,16 +1,14 @@
 // Which rule of the file table a descriptor breaks, for a message: the word that refuses it does not tell.
+use model::AREA_SIZE;
 use model::Descriptor;
 use model::Loading;
+use model::TABLE_LIMIT;
 ghost use mathlib.Core.Path.{_≡_};
 ghost use Prim.Native.Nat.{_+_, _≤_};
 ghost use lib.ListN.{take};
 ghost use Rattle.model.specs.Loads.{fileList};
 ghost use Rattle.flaws.specs.Flaws.{accessFlaw, fieldFlaw, clashFlaw, totalFlaw, efFlaw, kindFlaw};
 ghost use Rattle.flaws.specs.Flaws.{flawOf, listed};
-
-const TABLE_LIMIT: usize = 31;
-
-const AREA_SIZE: usize = 4096;
 
 const LAST_SFI: u8 = 0x1E;
 

@@ -1,4 +1,6 @@
 // The fresh card, made from a chip record.
+use model::CAPACITY;
+use model::CHIP_SIZE;
 use model::Card;
 use model::Chip;
 use model::Descriptor;
@@ -15,14 +17,9 @@ ghost use Rattle.lists.specs.Bytes.{padded};
 ghost use Rattle.model.specs.Stored.{chipSize, chipOf, chipForm, freshLoading, freshCard};
 ghost use Rattle.model.specs.Session.{freshOf};
 
-// A chip record: application reference 4, challenge 16, traceability 16, session capacity 1, three zero bytes.
-const CHIP_SIZE: usize = 40;
-
 const CHALLENGE: usize = 4;
 
 const TRACEABILITY: usize = 20;
-
-const CAPACITY: usize = 36;
 
 const SPARE: usize = 37;
 

@@ -15,6 +15,7 @@ use Rattle.model.specs.declared.Header.the-variants.{Torn, Whole}
 use Rattle.model.specs.Header.{longForm, headerOf}
 use Rattle.model.specs.Rows.{rowAt, rowOf, rowTable}
 use Rattle.model.specs.Order.{spannable, groupingUnits, unitsBy, unitsIn}
+use Rattle.model.proofs.Laws.{units-none}
 
 -- a whole header takes at least 3 bytes, and those are there
 abbrev pub Within : List ℕ → Header → Type 0
@@ -35,11 +36,6 @@ header-within o =
 
 pub whole-within : (o : List ℕ) (h : Head) → headerOf o ≡ Whole h → (3 ≤ h .size) × (h .size ≤ length o)
 whole-within o h e = subst (Within o) e (header-within o)
-
-pub units-none : (fuel : ℕ) → unitsIn fuel [] ≡ []
-unfolding unitsIn
-units-none zero = refl
-units-none (suc fuel) = refl
 
 -- the units by a header differ only by those of what comes behind
 units-later : (f g : ℕ) (o : List ℕ) (h : Header) → Within o h

@@ -30,6 +30,7 @@ use Rattle.whole.specs.Whole.{lineSize, mostEvents, wholeBy, wholeRegister, eve
 use Rattle.whole.proofs.Counts.{whole-so, whole-events}
 use Rattle.whole.proofs.Printed.{loadedLine, printed-whole}
 use Rattle.job_register.specs.Jobs.{recordRoom, jobWriting, eventsOf, registerOf, entryOf, textOf}
+use Rattle.model.proofs.Laws.{length-records}
 
 -- a session's run, begun where a register stands
 abbrev runAs : List ℕ → Register → Run
@@ -68,11 +69,6 @@ run-so c a room bytes =
     (λ e. by-cond (Ran w) (not (sound c)) (λ f z. absurd (omega arith))
     (λ f. by-cond (Ran w) (not (eqb (length bytes % recordSize) 0)) (λ g z. absurd (omega arith))
     (λ g. by-cond (Ran w) (ltb room (eventsIn bytes)) (λ h z. absurd (omega arith)) (λ h z. refl))))
-
-length-records : (n : ℕ) (b : List ℕ) → length (recordsIn n b) ≡ n
-unfolding recordsIn
-length-records zero b = refl
-length-records (suc n) b = rw (length-records n (drop recordSize b))
 
 line-loaded : (n kind number word : ℕ) (c : Card) → word ≡ 0x9000 → c .life .gp ≡ 0x07 → c .loading .running .internal ≡ 0xA5
     → lineOf n kind number word c ≡ loadedLine n kind number (c .loading .running .rows)

@@ -1,10 +1,9 @@
 // The register of a job: its order cut, played on a fresh card of its chip, and a line for each event.
+use model::AREA_SIZE;
 ghost use mathlib.Core.Path.{_≡_};
 ghost use Prim.Native.Nat.{_≤_};
 ghost use lib.ListN.{length};
 ghost use Rattle.job_register.specs.Jobs.{refusedAs, recordRoom, jobWriting, Registers, Session, Plays};
-
-const AREA_SIZE: usize = 4096;
 
 // No complete order is cut into more than 45 records: INSTALL and SELECT, and those.
 pub const RECORD_ROOM: usize = 12220;
@@ -42,8 +41,8 @@ fn play(chip: &[u8], records: &[u8], area: &mut [u8], out: &mut [u8]) -> Entry
     let card = made.card;
     slices::clear(area);
     let last = register::enter_all(card, area, records, 0, out);
-    let events = records.len() / register::RECORD_SIZE;
-    ending::put_end(out, events * register::LINE_SIZE, last.count);
+    let events = records.len() / model::RECORD_SIZE;
+    ending::put_end(out, events * model::LINE_SIZE, last.count);
     let serial = last.card.loading.serial;
     Entry {
         number: 0,
@@ -82,6 +81,6 @@ pub fn enter_job(
     if written.number != 0 {
         return refused_by(written.number);
     }
-    let end = (written.count + 2) * job_session::RECORD_SIZE;
+    let end = (written.count + 2) * model::RECORD_SIZE;
     play(chip, &room[..end], area, out)
 }

@@ -1,4 +1,5 @@
 // The session of a job, in lent room: INSTALL '0C' and SELECT of the instance, and behind them the writer's records.
+use model::RECORD_SIZE;
 use model::Written;
 ghost use mathlib.Core.Path.{_≡_};
 ghost use mathlib.Core.List.{_++_};
@@ -7,8 +8,6 @@ ghost use lib.ListN.{length};
 ghost use Rattle.lists.specs.Over.{overwrite};
 ghost use Rattle.cutting.specs.Job.{installRecord, selectRecord};
 ghost use Rattle.job_session.specs.Laid.{sessionWriting, Lays};
-
-pub const RECORD_SIZE: usize = 260;
 
 // How many bytes INSTALL and SELECT take.
 const FRONT_SIZE: usize = 520;

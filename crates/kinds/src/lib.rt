@@ -1,13 +1,12 @@
 // Which records are events; the answer to a record that is refused.
 use model::Card;
+use model::DATA_PLACE;
 use model::Played;
 ghost use mathlib.Core.Path.{_≡_};
 ghost use Prim.Native.Nat.{_+_, _<_};
 ghost use lib.ListN.{length};
 ghost use Rattle.model.specs.Stored.{isKind};
 ghost use Rattle.kinds.specs.Faults.{faultIn};
-
-const DATA_PLACE: usize = 4;
 
 pub fn refused_by(number: u8, c: Card) -> Played
     ensures { λ r. ⌜ r ≡ record { number = number; word = 0; answered = 0; card = c } ⌝ }

@@ -1,5 +1,6 @@
 // The bytes of a record, laid in the file area as they come.
 use model::Open;
+use model::RECORD_ROW;
 use model::Running;
 use steps::Course;
 use steps::Step;
@@ -7,8 +8,6 @@ ghost use mathlib.Core.Path.{_≡_};
 ghost use Prim.Native.Nat.{_+_, _≤_};
 ghost use Rattle.model.specs.Stored.{areaSize};
 ghost use Rattle.laying.specs.Records.{recordRun, recordStep};
-
-const RECORD_ROW: usize = 11;
 
 // A record's value that misses so much: taken whole, or still open.
 fn record_run(p: Running, tag: u16, written: usize, missing: usize) -> Running

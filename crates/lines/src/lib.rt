@@ -1,4 +1,5 @@
 // The characters that the programs print, written straight into lent memory, a field at a time.
+use model::LINE_SIZE;
 use sets::count;
 ghost use mathlib.Core.Path.{_≡_};
 ghost use mathlib.Core.List.{[], _∷_, _++_};
@@ -6,8 +7,6 @@ ghost use Prim.Native.Nat.{_+_, _≤_, _<_, min};
 ghost use lib.ListN.{length};
 ghost use Rattle.lists.specs.Over.{overwrite};
 ghost use Rattle.model.specs.Lines.{lineWith, five, two, hex2, hex4, blank};
-
-pub const LINE_SIZE: usize = 26;
 
 const BLANK: u8 = 0x20;
 

@@ -10,6 +10,7 @@ use lib.Dec.{eqb}
 use lib.ListN.{length, getD, take, drop, replicate, drop-of-length-le}
 use lib.Seq.{drop-cons}
 use borrow.Author.Tests.{eq-eqb, ne-eqb, eqb-true}
+use Rattle.lists.specs.Truth.{and-false, never, both}
 
 -- byte i, 0 past the end
 abbrev pub byteAt : List ℕ → ℕ → ℕ
@@ -86,27 +87,12 @@ pub same-end : (a b : List ℕ) (i : ℕ) → length a ≡ length b → length a
 unfolding same
 same-end a b i e h = rw (drop-of-length-le a h, drop-of-length-le b (rw e at h))
 
-pub and-false : (t : Bool) → (t && false) ≡ false
-and-false true = refl
-and-false false = refl
-
-pub and-true : (t : Bool) → (t && true) ≡ t
-and-true true = refl
-and-true false = refl
-
 pub same-length : (a b : List ℕ) → (length a ≡ length b → ⊥) → same a b ≡ false
 unfolding same
 same-length [] [] n = absurd (n refl)
 same-length [] (y ∷ ys) n = refl
 same-length (x ∷ xs) [] n = refl
 same-length (x ∷ xs) (y ∷ ys) n = rw (same-length xs ys (λ e. n (ap suc e))) (and-false (eqb x y))
-
-never : {A : Type 0} → false ≡ true → A
-never e = let z : _≡_ {A = ℕ} 0 1 = cc in absurd (omega arith)
-
-both : (t : Bool) {u : Bool} → (t && u) ≡ true → (t ≡ true) × (u ≡ true)
-both true e = (refl, e)
-both false e = never e
 
 -- the same bytes exactly where the lists are equal
 pub same-eq : (a b : List ℕ) → same a b ≡ true → a ≡ b

@@ -4,3 +4,4 @@ pub mod Over
 pub mod Choice
 pub mod Rest
 pub mod Least
+pub mod Truth

@@ -1,4 +1,5 @@
--- What is shown of the definition by computing it.
+-- Laws of the definition, and what is shown of it by computing it.
+pub mod Laws
 pub mod Scenes
 pub mod Computed
 pub mod Examples

@@ -6,6 +6,7 @@ pub mod Header
 pub mod Table
 pub mod Loads
 pub mod Rules
+pub mod Stages
 pub mod Command
 pub mod Events
 pub mod Sound

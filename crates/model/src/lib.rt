@@ -1,5 +1,49 @@
-// What document 01 speaks of, as types: the chip, the card in its three parts, a header, and the answers of the
+// What document 01 speaks of, as types and sizes: the chip, the card in its three parts, a header, and the answers of the
 // calls. All that it says of them is in specs/; there is no logic here.
+
+// Stored forms: a chip record, its session capacity's place; an event record, its data's place; the file area; the least
+// answer buffer; the longest order.
+pub const CHIP_SIZE: usize = 40;
+
+pub const CAPACITY: usize = 36;
+
+pub const RECORD_SIZE: usize = 260;
+
+pub const DATA_PLACE: usize = 4;
+
+pub const AREA_SIZE: usize = 4096;
+
+pub const ANSWER_ROOM: usize = 64;
+
+pub const ORDER_LIMIT: usize = 8192;
+
+// The kind of event that loads.
+pub const STORE_DATA: u8 = 2;
+
+// The eleven rows; those whose values span; a secret's longest.
+pub const ROW_COUNT: usize = 11;
+
+pub const TABLE_ROW: usize = 5;
+
+pub const RECORD_ROW: usize = 11;
+
+pub const SECRET_ROOM: usize = 64;
+
+// The file table: its descriptors, their bytes, and the types of EF that store otherwise than by records.
+pub const TABLE_LIMIT: usize = 31;
+
+pub const DESCRIPTOR_SIZE: usize = 18;
+
+pub const TABLE_ROOM: usize = 558;
+
+pub const BINARY: u8 = 0x01;
+
+pub const SIMULATED: u8 = 0x08;
+
+// A register's line for an event, and its last.
+pub const LINE_SIZE: usize = 26;
+
+pub const END_SIZE: usize = 10;
 
 // A chip record's facts.
 pub struct Chip {

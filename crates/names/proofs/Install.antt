@@ -1,7 +1,7 @@
 -- INSTALL's data: its names and its tail, by the places where they stand.
 use Prim.Native.Nat.{ℕ, _+_, _-_, _≤_, _<_}
-use mathlib.Core.Path.{_≡_, refl, ap, sym, _∙_}
-use mathlib.Core.Bool.{Bool, true, false, cond, _&&_}
+use mathlib.Core.Path.{_≡_, ap, sym, _∙_}
+use mathlib.Core.Bool.{true, false, cond, _&&_}
 use mathlib.Core.List.{List, [], _∷_}
 use native.Mathlib.Omega.{arith}
 use borrow.Author.Tests.{leb-true}
@@ -12,17 +12,7 @@ use Rattle.model.specs.declared.Life.{Life}
 use Rattle.model.specs.Events.{namesIn, nameLength, installForm, selectableForm}
 use Rattle.names.specs.declared.Places.{Places}
 use Rattle.names.specs.Places.{placed, placesIn, namedAs}
-
-never : {A : Type 0} → false ≡ true → A
-never e = let z : _≡_ {A = ℕ} 0 1 = cc in absurd (omega arith)
-
-and-l : (a b : Bool) → (a && b) ≡ true → a ≡ true
-and-l true b e = refl
-and-l false b e = e
-
-and-r : (a b : Bool) → (a && b) ≡ true → b ≡ true
-and-r true b e = e
-and-r false b e = never e
+use Rattle.lists.specs.Truth.{and-l, and-r}
 
 -- INSTALL's fixed tails
 abbrev pub installTail : List ℕ

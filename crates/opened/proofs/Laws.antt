@@ -14,14 +14,7 @@ use Rattle.model.specs.declared.Loading.{Loading}
 use Rattle.model.specs.declared.Secret.{Secret}
 use Rattle.model.specs.Sound.{secretsOk, tableFits, descriptorsOk, soundWith}
 use Rattle.opened.specs.Parts.{lifePart, loadPart, openPart}
-
-pub and-false : (a : Bool) → (a && false) ≡ false
-and-false true = refl
-and-false false = refl
-
-pub and-true : (a : Bool) → (a && true) ≡ a
-and-true true = refl
-and-true false = refl
+use Rattle.lists.specs.Truth.{and-false, and-true}
 
 -- what the language reads past an array's end (never read)
 abbrev pub pastEnd : Secret

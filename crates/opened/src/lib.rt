@@ -1,21 +1,17 @@
 // The clauses of sound on an open value.
+use model::DESCRIPTOR_SIZE;
 use model::Loading;
 use model::Open;
 use model::Spot;
+use model::TABLE_LIMIT;
+use model::TABLE_ROOM;
+use model::TABLE_ROW;
 ghost use mathlib.Core.Path.{_≡_};
 ghost use mathlib.Core.Bool.{_&&_};
 ghost use Prim.Native.Nat.{_≤_};
 ghost use lib.Dec.{eqb};
 ghost use Rattle.model.specs.Sound.{tableFits, recordFits, pendingFits, someMissing, openOk};
 ghost use Rattle.opened.specs.Parts.{openPart};
-
-const TABLE_LIMIT: usize = 31;
-
-const TABLE_ROW: usize = 5;
-
-const DESCRIPTOR_SIZE: usize = 18;
-
-const TABLE_ROOM: usize = 558;
 
 fn is_07_with_5a(g: u8, i: u8) -> bool
     ensures { λ r. ⌜ r ≡ (eqb g 0x07 && eqb i 0x5A) ⌝ }

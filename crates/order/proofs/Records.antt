@@ -4,24 +4,15 @@ use mathlib.Core.Path.{_≡_, refl, sym, ap, _∙_}
 use mathlib.Core.List.{List, [], _∷_, append-nil}
 use native.Mathlib.Nat.{zero-add}
 use native.Mathlib.Omega.{arith}
-use lib.ListN.{length, length-take, length-append, length-replicate}
+use lib.ListN.{length, length-take}
 use Rattle.lists.specs.Bytes.{part}
 use Rattle.lists.specs.Over.{overwrite, length-over, over-then}
-use Rattle.model.specs.Stored.{recordSize, dataRoom, recordOf}
+use Rattle.model.specs.Stored.{recordSize, dataRoom}
 use Rattle.model.specs.Order.{cutOf, stored, storedAll, recordsFor}
 use Rattle.cuts.specs.declared.Place.{Place}
 use Rattle.cuts.specs.Cuts.{joined, Fitting, unitsFrom, commandsFrom, Command}
 use Rattle.cuts.proofs.Commands.{atStart, first-cut, next-cut, none-left}
-
-length-stored : (p1 : ℕ) (d : List ℕ) → length d ≤ dataRoom → length (stored p1 d) ≡ recordSize
-unfolding recordOf
-length-stored p1 d h = simp (length-append, length-replicate) (omega arith)
-
-length-all : (cs : List (List ℕ)) → length (storedAll cs) ≡ length cs
-unfolding storedAll
-length-all [] = refl
-length-all (d ∷ []) = refl
-length-all (d ∷ e ∷ ds) = ap suc (length-all (e ∷ ds))
+use Rattle.model.proofs.Laws.{length-stored}
 
 -- a record, and those behind it
 laid-then : (a : List ℕ) (to p1 : ℕ) (d : List ℕ) (rs : List (List ℕ)) → length d ≤ dataRoom
@@ -100,6 +91,3 @@ laid-all order a b c e f =
     f ∙ rw e (sym (rw zero-add at (laid-then a 0 0x01 (0x94 ∷ 0x84 ∷ 0x00 ∷ []) (storedAll (cutOf order)) (omega arith))))
 
 -- a record a command, and one before them
-pub length-records : (order : List ℕ) → length (recordsFor order) ≡ suc (length (cutOf order))
-unfolding recordsFor
-length-records order = ap suc (length-all (cutOf order))

@@ -1,5 +1,7 @@
 // The writer's records: an order cut, and laid into lent room.
 use cuts::Place;
+use model::RECORD_SIZE;
+use model::STORE_DATA;
 ghost use mathlib.Core.Path.{_≡_};
 ghost use Prim.Native.Nat.{_+_, _*_, _≤_};
 ghost use lib.ListN.{length};
@@ -8,12 +10,8 @@ ghost use Rattle.model.specs.Stored.{dataRoom, recordSize};
 ghost use Rattle.model.specs.Order.{recordsFor, stored};
 ghost use Rattle.cuts.specs.Cuts.{cuttable, joined};
 
-const RECORD_SIZE: usize = 260;
-
 // A record's bytes before its data: kind, P1, P2, length.
 const FRONT_SIZE: usize = 4;
-
-const STORE_DATA: u8 = 2;
 
 // One record of STORE DATA, written whole, zeros and all.
 fn lay_record(room: &mut [u8], to: usize, p1: u8, bytes: &[u8])

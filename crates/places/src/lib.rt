@@ -1,6 +1,8 @@
 // Where a record lies in the file area: files in table order, records in theirs.
+use model::BINARY;
 use model::Descriptor;
 use model::Loading;
+use model::SIMULATED;
 use model::Spot;
 ghost use mathlib.Core.Path.{_≡_};
 ghost use Prim.Native.Nat.{_+_, _-_, _*_, _≤_, _<_};
@@ -9,10 +11,6 @@ ghost use Rattle.model.specs.Table.{spotIn, spotOf};
 ghost use Rattle.model.specs.Loads.{fileList};
 ghost use Rattle.model.specs.Rules.{tagSpot};
 ghost use Rattle.places.specs.Scans.{scanFrom};
-
-const BINARY: u8 = 0x01;
-
-const SIMULATED: u8 = 0x08;
 
 // Record nn of a file that begins at `base`.
 pub fn spot_in(d: Descriptor, base: usize, nn: u8) -> Spot

@@ -1,10 +1,10 @@
 -- The records of a block, one more each time.
-use Prim.Native.Nat.{ℕ, zero, suc, _+_, _*_}
+use Prim.Native.Nat.{ℕ, _+_, _*_}
 use mathlib.Core.Path.{_≡_, refl, sym, _∙_}
 use mathlib.Core.List.{List, [], _∷_, _++_}
 use native.Mathlib.Nat.{zero-add}
 use native.Mathlib.Omega.{arith}
-use lib.ListN.{length, drop, length-append}
+use lib.ListN.{length, length-append}
 use Rattle.lists.specs.Bytes.{byteAt, part}
 use Rattle.lists.specs.Over.{overwrite, over-append, over-none}
 use Rattle.model.specs.declared.Card.{Card}
@@ -16,6 +16,7 @@ use Rattle.soundness.proofs.Sessions.{turn-keeps}
 use Rattle.digits.proofs.Sizes.{length-line}
 use Rattle.events.proofs.Records.{records-more}
 use Rattle.register.specs.Entries.{Register, begun, counted, entry, entries, enteredOf, Enters}
+use Rattle.model.proofs.Laws.{length-records}
 
 -- two lists of records, the second on what the first left
 pub entries-append : (xs ys : List (List ℕ)) (g : Register) → entries g (xs ++ ys) ≡ entries (entries g xs) ys
@@ -34,11 +35,6 @@ entries-sized : (rs : List (List ℕ)) (g : Register) → length (entries g rs .
 unfolding entries entry
 entries-sized [] g = omega arith
 entries-sized (r ∷ rs) g = entries-sized rs (entry g r) ∙ rw (length-append, length-line) (omega arith)
-
-length-records : (n : ℕ) (b : List ℕ) → length (recordsIn n b) ≡ n
-unfolding recordsIn
-length-records zero b = refl
-length-records (suc n) b = rw (length-records n (drop 260 b))
 
 module _ (n : ℕ) (c₀ : Card) (a₀ b o₀ : List ℕ) where
   pub lines-sized : (k : ℕ) → length (enteredOf k n c₀ a₀ b .lines) ≡ k * 26

@@ -2,8 +2,11 @@
 // is judged elsewhere is small.
 use load::End;
 use model::Card;
+use model::DATA_PLACE;
+use model::LINE_SIZE;
 use model::Life;
 use model::Open;
+use model::RECORD_SIZE;
 use model::Running;
 use model::Spot;
 use model::Verdict;
@@ -16,14 +19,8 @@ ghost use Rattle.soundness.specs.Keeps.{Good};
 ghost use Rattle.register.specs.Entries.{enteredOf, Enters};
 ghost use Rattle.register.specs.Owned.{spanOf, heldAs, shutAs, lockedAs};
 
-pub const RECORD_SIZE: usize = 260;
-
-pub const LINE_SIZE: usize = 26;
-
 // Event numbers are printed by their last five digits.
 pub const NUMBERS: u64 = 100_000;
-
-const DATA_PLACE: usize = 4;
 
 // The card after some records, and the last five digits of the number of events so far.
 pub struct Entered {

@@ -57,7 +57,7 @@ fn play_all(c: Card, area: &mut [u8], fd: i32, label: &[u8]) -> Outcome
         if n < BLOCK_SIZE {
             return Outcome {
                 count: last.count,
-                refused: remarks::note_end(label, noted, n % register::RECORD_SIZE),
+                refused: remarks::note_end(label, noted, n % model::RECORD_SIZE),
                 failed: false,
             };
         }
@@ -70,7 +70,7 @@ fn play_all(c: Card, area: &mut [u8], fd: i32, label: &[u8]) -> Outcome
 fn print_lines(lines: &[u8], n: usize) -> bool
     requires { ⌜ n / 260 * 26 ≤ length (now lines) ⌝ }
 {
-    let end = n / register::RECORD_SIZE * register::LINE_SIZE;
+    let end = n / model::RECORD_SIZE * model::LINE_SIZE;
     edge::print(b"replay: standard output", &lines[..end])
 }
 

@@ -1,5 +1,9 @@
 // The eleven-row table as constants, and the mandatory rows that are missing.
+use model::DESCRIPTOR_SIZE;
+use model::ROW_COUNT;
 use model::Row;
+use model::SECRET_ROOM;
+use model::TABLE_ROOM;
 ghost use mathlib.Core.Path.{_≡_};
 ghost use Prim.Native.Nat.{_+_, _-_, _≤_, _<_};
 ghost use lib.Dec.{eqb};
@@ -7,15 +11,7 @@ ghost use lib.ListN.{take};
 ghost use Rattle.model.specs.Rows.{rowAt, rowOf, rowTable, missingFrom, mandatoryMissing};
 ghost use Rattle.rows.specs.Lacking.{lacking};
 
-const ROW_COUNT: usize = 11;
-
 const LONGEST: usize = 0xFFFE;
-
-const SECRET_ROOM: usize = 64;
-
-const DESCRIPTOR_SIZE: usize = 18;
-
-const TABLE_ROOM: usize = 558;
 
 // The tags.
 const CHALLENGE_TAG: u16 = 0x9484;

@@ -1,6 +1,7 @@
 // One grouping, by rules a to h; `values` has f to h.
 use model::Head;
 use model::Header;
+use model::RECORD_ROW;
 use model::Running;
 use model::Spot;
 use model::Verdict;
@@ -13,11 +14,9 @@ ghost use Prim.Native.Nat.{ℕ, _+_, _≤_, _<_};
 ghost use lib.ListN.{length, drop};
 ghost use Rattle.model.specs.declared.Loading.{Loading};
 ghost use Rattle.model.specs.Rules.{grouping};
-ghost use Rattle.steps.specs.Stages.{fromE, fromD, fromC, fromB};
+ghost use Rattle.model.specs.Stages.{fromE, fromD, fromC, fromB};
 ghost use Rattle.steps.specs.Steps.{on, Judges, Within, Stands, Dued};
 ghost use Rattle.rules.specs.Rooms.{roomSpot, Placed};
-
-const RECORD_ROW: usize = 11;
 
 // Rule e: where a record lies, and the most bytes that the value may have.
 pub fn room_of(spot: Spot, row: usize) -> Spot

@@ -24,7 +24,7 @@ use Rattle.model.specs.Session.{Turn, turnOf}
 use Rattle.secrecy.specs.View.{Mark, seen, seens, secretMarks, isSecret, valueMarks, groupingMarks, missingIn, marksBy, marksWalk, marksCommand, marksData, marksIn, walked, stateIn, Hiding, every, view, viewRecord, viewsFrom}
 use Rattle.secrecy.specs.Veil.{veil, veilState, veilTurn}
 use Rattle.secrecy.specs.Alike.{Differs, AlikeSessions}
-use Rattle.secrecy.proofs.Rules.{notWent}
+use Rattle.model.proofs.Laws.{Stops}
 use Rattle.secrecy.proofs.Heads.{head-kept, byte-kept}
 use Rattle.secrecy.proofs.Steps.{Hides, hides-fed}
 use Rattle.secrecy.proofs.Grouping.{hides-grouping}
@@ -45,7 +45,7 @@ stateOf (failed w s) = s
 abbrev blind : ℕ → List ℕ → State → List Mark
 blind n left s = secretMarks 0 0 n
 
-no-marks : (front : List Mark) (later : List ℕ → State → List Mark) (r : Result (List ℕ)) → notWent r → marksBy front later r ≡ []
+no-marks : (front : List Mark) (later : List ℕ → State → List Mark) (r : Result (List ℕ)) → Stops r → marksBy front later r ≡ []
 no-marks front later (went left s) n = absurd n
 no-marks front later (asked tag s) n = refl
 no-marks front later (failed w s) n = refl

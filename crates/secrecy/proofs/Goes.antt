@@ -19,7 +19,8 @@ use Rattle.secrecy.specs.View.{isSecret, missingIn, Hiding}
 use Rattle.secrecy.specs.Veil.{veilState}
 use Rattle.secrecy.proofs.Veils.{veilResult}
 use Rattle.secrecy.proofs.Rules.{no-query, veil-b, veil-c, veil-judged, veil-startup, veil-table}
-use Rattle.secrecy.proofs.Stages.{fromB, fromC, fromD, fromE, fromF, fromG, row-cases}
+use Rattle.model.specs.Stages.{fromB, fromC, fromD, fromE, fromF, fromG}
+use Rattle.secrecy.proofs.RowCases.{row-cases}
 
 abbrev pub goes : {A : Type 0} → Result A → Bool
 goes (went a s) = true

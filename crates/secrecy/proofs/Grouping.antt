@@ -20,7 +20,8 @@ use Rattle.secrecy.proofs.Marks.{take-secret, drop-secret}
 use Rattle.secrecy.proofs.Veils.{keptAs, veilResult, veil-secret}
 use Rattle.secrecy.proofs.Rules.{no-query, veil-b, veil-c, veil-judged, veil-startup}
 use Rattle.secrecy.proofs.Heads.{view-head}
-use Rattle.secrecy.proofs.Stages.{fromB, fromC, fromD, fromE, fromF, fromG, row-cases}
+use Rattle.model.specs.Stages.{fromB, fromC, fromD, fromE, fromF, fromG}
+use Rattle.secrecy.proofs.RowCases.{row-cases}
 use Rattle.secrecy.proofs.Steps.{Hides, hides-then, hides-behind, hides-taken, hides-fed}
 
 module _ (z : Hiding) (later : List ℕ → State → List Mark) where

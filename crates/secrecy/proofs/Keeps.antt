@@ -24,7 +24,8 @@ use Rattle.secrecy.specs.View.{Mark, seen, seens, secretMarks, valueMark
 use Rattle.secrecy.specs.Kept.{keptBy}
 use Rattle.secrecy.proofs.Veils.{keptAs}
 use Rattle.secrecy.proofs.Rules.{no-query}
-use Rattle.secrecy.proofs.Stages.{fromB, fromC, fromD, fromE, fromF, fromG, row-cases}
+use Rattle.model.specs.Stages.{fromB, fromC, fromD, fromE, fromF, fromG}
+use Rattle.secrecy.proofs.RowCases.{row-cases}
 use Rattle.secrecy.proofs.Places.{kept-append, kept-seen, length-secretMarks, secret-kept}
 use Rattle.secrecy.proofs.Stays.{secretsOf, stays-b, stays-c, stays-judged, stays-startup, stays-table, stays-record, judged-passes, unless-passes, secret-size}
 

@@ -24,6 +24,7 @@ use Rattle.secrecy.proofs.Events.{unselected, stores, Walks, walks, pla
 use Rattle.secrecy.proofs.Places.{kept-nil, kept-none, kept-append, kept-seen, kept-within}
 use Rattle.secrecy.proofs.Stays.{secretsOf, stays-thence, stays-end}
 use Rattle.secrecy.proofs.Keeps.{Keeps, keeps-fed, keeps-grouping}
+use Rattle.lists.specs.Truth.{same-if}
 
 -- a rule, and then what it left
 then-kept : (front : List Mark) (later : List ℕ → State → List Mark) (b : List ℕ) (xs : List Secret) (r : Result (List ℕ)) (k : List ℕ → Rule ℕ)
@@ -57,10 +58,6 @@ secretsIn r = r .card .loading .secrets
 secrets-if : (b : Bool) (x y : Reply) → secretsIn (cond b x y) ≡ cond b (secretsIn x) (secretsIn y)
 secrets-if true x y = refl
 secrets-if false x y = refl
-
-same-if : (b : Bool) (xs : List Secret) → cond b xs xs ≡ xs
-same-if true xs = refl
-same-if false xs = refl
 
 errs-kept : (w : ℕ) (c : Card) (a : List ℕ) → secretsIn (errs w c a) ≡ c .loading .secrets
 unfolding errs

@@ -7,7 +7,7 @@ pub mod Veils
 pub mod Rules
 pub mod Steps
 pub mod Heads
-pub mod Stages
+pub mod RowCases
 pub mod Grouping
 pub mod Commands
 pub mod Events

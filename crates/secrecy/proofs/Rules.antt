@@ -1,7 +1,7 @@
 -- Each rule of the walk, on a veiled state: it does the same, and what it comes to is veiled.
 use Prim.Native.Nat.{ℕ, zero, suc, _+_, _-_}
 use mathlib.Core.Path.{_≡_, refl, ap, subst}
-use mathlib.Core.Bool.{false, not, _&&_}
+use mathlib.Core.Bool.{false, _&&_}
 use mathlib.Core.List.{List, [], _∷_}
 use lib.Dec.{eqb}
 use lib.ListN.{length, set}
@@ -15,34 +15,17 @@ use Rattle.model.specs.declared.Verdict.the-variants.{Passes, Refuses}
 use Rattle.model.specs.Rows.{due}
 use Rattle.model.specs.Table.{descriptorOf, admitOf}
 use Rattle.model.specs.Loads.{State, fileList, withInternal, withTaken, withOpen, withFile, changed}
-use Rattle.model.specs.Rules.{Result, went, asked, failed, judged, isQuery, aloneAtStart, bit1, bit8, challenged, query, ruleB, ruleC, startup, tableDone, recordDone, described, tableByte, inTable, tableBytes, laid, tagSpot, recordBytes}
+use Rattle.model.specs.Rules.{Result, went, asked, failed, judged, isQuery, challenged, query, ruleB, ruleC, startup, tableDone, recordDone, described, tableByte, inTable, tableBytes, laid, tagSpot, recordBytes}
 use Rattle.secrecy.specs.View.{Hiding}
 use Rattle.secrecy.specs.Veil.{veilState}
 use Rattle.secrecy.proofs.Veils.{veilResult, veil-cond, veil-thence}
-
--- a rule that is no longer in the walk's way
-abbrev pub notWent : {A : Type 0} → Result A → Type 0
-notWent (went a s) = ⊥
-notWent (asked tag s) = Unit {0}
-notWent (failed w s) = Unit {0}
-
--- the three queries end the command
-pub query-ends : (n p1 : ℕ) (b : List ℕ) (h : Head) (s : State) → notWent (query n p1 b h s)
-unfolding query challenged
-query-ends n p1 b h s =
-    by-cond notWent (aloneAtStart n b h)
-    (λ _. by-cond notWent (bit1 p1 && not (bit8 p1))
-    (λ _. by-cond notWent (eqb (h .tag) 0x9484)
-    (λ _. by-cond notWent (eqb (s .load .running .internal) 0xCC && due (s .load .running .rows) (s .load .running .last) 1 0x9484) (λ _. tt) (λ _. tt))
-    (λ _. tt))
-    (λ _. tt))
-    (λ _. tt)
+use Rattle.model.proofs.Laws.{Stops, query-stops}
 
 pub no-query : (n p1 : ℕ) (b : List ℕ) (h : Head) (s : State) (a : ℕ) (s′ : State) → ruleB n p1 b h s ≡ went a s′ → isQuery (h .tag) ≡ false
 unfolding ruleB
 no-query n p1 b h s a s′ =
     by-cond (λ (r : Result ℕ). r ≡ went a s′ → isQuery (h .tag) ≡ false) (isQuery (h .tag))
-    (λ q e. absurd (subst notWent e (query-ends n p1 b h s)))
+    (λ q e. absurd (subst Stops e (query-stops n p1 b h s)))
     (λ q e. q)
 
 module _ (z : Hiding) where

@@ -17,6 +17,7 @@ use Rattle.model.specs.Table.{descriptorOf, admitOf}
 use Rattle.model.specs.Loads.{State, fileList}
 use Rattle.model.specs.Rules.{Result, went, asked, failed, Rule, thence, judged, unless, challenged, query, ruleB, ruleC, startup, tableDone, recordDone, described, tableByte, inTable, tableBytes, recordBytes}
 use Rattle.model.specs.Command.{theEnd}
+use Rattle.lists.specs.Truth.{same-if}
 
 abbrev pub secretsOf : {A : Type 0} → Result A → List Secret
 secretsOf (went a s) = s .load .secrets
@@ -26,10 +27,6 @@ secretsOf (failed w s) = s .load .secrets
 secrets-if : {A : Type 0} (b : Bool) (x y : Result A) → secretsOf (cond b x y) ≡ cond b (secretsOf x) (secretsOf y)
 secrets-if true x y = refl
 secrets-if false x y = refl
-
-same-if : (b : Bool) (xs : List Secret) → cond b xs xs ≡ xs
-same-if true xs = refl
-same-if false xs = refl
 
 pub stays-b : (n p1 : ℕ) (b : List ℕ) (h : Head) (s : State) → secretsOf (ruleB n p1 b h s) ≡ s .load .secrets
 unfolding ruleB query challenged

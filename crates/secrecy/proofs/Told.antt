@@ -19,14 +19,14 @@ use Rattle.model.specs.Session.{Turn, turnOf}
 use Rattle.secrecy.specs.View.{Mark, seens, groupingMarks, missingIn, marksBy, marksWalk, marksCommand, marksData, marksIn, marksFrom, walked, stateIn, Hiding, view, viewRecord, viewsFrom}
 use Rattle.secrecy.specs.Veil.{veil, veilState}
 use Rattle.secrecy.proofs.Marks.{length-view}
-use Rattle.secrecy.proofs.Rules.{notWent}
+use Rattle.model.proofs.Laws.{Stops}
 use Rattle.secrecy.proofs.Heads.{view-head}
 use Rattle.secrecy.proofs.Steps.{hidden, hides-fed}
 use Rattle.secrecy.proofs.Grouping.{hides-grouping}
 use Rattle.secrecy.proofs.Events.{Walks, walks}
 use Rattle.secrecy.proofs.Turns.{first, data-seen, padded-seen, hides-turn}
 
-pub torn-fails : (capacity n p1 : ℕ) (b : List ℕ) (s : State) → headerOf b ≡ Torn → notWent (grouping capacity n p1 b s)
+pub torn-fails : (capacity n p1 : ℕ) (b : List ℕ) (s : State) → headerOf b ≡ Torn → Stops (grouping capacity n p1 b s)
 unfolding grouping ruleA
 torn-fails capacity n p1 b s e = rw e tt
 
@@ -47,7 +47,7 @@ module _ (z : Hiding) where
   told-by front later p (asked tag t) = refl
   told-by front later p (failed w t) = refl
 
-  told-head : (later : List ℕ → State → List Mark) (b : List ℕ) (x : Header) (r : Result (List ℕ)) → headerOf b ≡ x → (x ≡ Torn → notWent r)
+  told-head : (later : List ℕ → State → List Mark) (b : List ℕ) (x : Header) (r : Result (List ℕ)) → headerOf b ≡ x → (x ≡ Torn → Stops r)
       → marksBy (groupingMarks (headerOf (view z (marksBy (groupingMarks x) later r) b))) later (hidden z later r)
       ≡ marksBy (groupingMarks x) later (hidden z later r)
   told-head later b (Whole h) (went left t) e q =

@@ -1,15 +1,12 @@
 // A session on a card: its events one after the other.
+use model::ANSWER_ROOM;
+use model::AREA_SIZE;
 use model::Card;
+use model::RECORD_SIZE;
 use model::Ran;
 ghost use lib.ListN.{length};
 ghost use Rattle.model.specs.Session.{runOf};
 ghost use Rattle.session.specs.Runs.{Checked, Runs};
-
-const AREA_SIZE: usize = 4096;
-
-const ANSWER_ROOM: usize = 64;
-
-const RECORD_SIZE: usize = 260;
 
 // The number by which a session is refused, else 0: 1, 6, 3, 11 are checked in this order.
 fn refusal(c: Card, area: usize, session: usize, words: usize) -> u8

@@ -63,7 +63,7 @@ fn play_all(c: Card, area: &mut [u8], fd: i32, label: &[u8]) -> Outcome
             return Outcome {
                 card: end,
                 events: noted.events,
-                refused: remarks::note_end(label, noted, n % register::RECORD_SIZE),
+                refused: remarks::note_end(label, noted, n % model::RECORD_SIZE),
                 failed: false,
             };
         }

@@ -1,11 +1,10 @@
 // A file's record, shown as the part of the file area where it is stored.
+use model::AREA_SIZE;
 use model::Card;
 use model::Spot;
 ghost use mathlib.Core.Path.{_≡_};
 ghost use Rattle.model.specs.Session.{shownOf};
 ghost use Rattle.showing.specs.Shows.{Shows};
-
-const AREA_SIZE: usize = 4096;
 
 // A file's record, as the part of the file area where it is stored: 1, 6, 8 are checked in this order.
 pub fn shown<'a>(c: Card, area: &'a [u8], sfi: u8, nn: u8, number: &mut u8) -> &'a [u8]

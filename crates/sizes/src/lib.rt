@@ -1,12 +1,10 @@
 // A file's size in the file area.
+use model::BINARY;
 use model::Descriptor;
+use model::SIMULATED;
 ghost use mathlib.Core.Path.{_≡_};
 ghost use Prim.Native.Nat.{_+_, _*_, _≤_, _<_};
 ghost use Rattle.model.specs.Table.{sizeOf, sizesOk};
-
-const BINARY: u8 = 0x01;
-
-const SIMULATED: u8 = 0x08;
 
 // A file's bytes in the file area.
 pub fn size_of(d: Descriptor) -> usize

@@ -3,23 +3,20 @@ use model::Card;
 use model::Descriptor;
 use model::Loading;
 use model::Open;
+use model::SECRET_ROOM;
 use model::Secret;
+use model::TABLE_LIMIT;
+use model::TABLE_ROW;
 ghost use mathlib.Core.Path.{_≡_};
 ghost use Prim.Native.Nat.{_≤_};
 ghost use lib.ListN.{length};
 ghost use Rattle.model.specs.Sound.{descriptorsOk, rowsOk, tableOpen, tablePlaced, secretsOk, sound};
 ghost use Rattle.opened.specs.Parts.{loadPart};
 
-const TABLE_LIMIT: usize = 31;
-
 // The first bit past those of rows 1 to 11.
 const PAST_ROWS: u16 = 0x0800;
 
-const TABLE_ROW: usize = 5;
-
 const SECRET_COUNT: usize = 5;
-
-const SECRET_ROOM: usize = 64;
 
 // The table's places: an array that comes by itself tells its length, which it does not as a card's field.
 fn places(files: [Descriptor; 31]) -> usize

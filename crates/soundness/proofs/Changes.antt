@@ -17,7 +17,7 @@ use Rattle.model.specs.Rows.{taken, withRow, descriptorSize, tableRoom, secretR
 use Rattle.model.specs.Rules.{tagSpot}
 use Rattle.model.specs.Command.{isShut}
 use Rattle.model.specs.Sound.{tableOpen, secretsOk, tableFits, recordFits}
-use Rattle.soundness.proofs.Tests.{and-l, and-r, and-i, or-l, or-r}
+use Rattle.lists.specs.Truth.{and-l, and-r, and-i, or-l, or-r}
 use Rattle.soundness.proofs.Taking.{withRow-bound, withRow-keeps}
 use Rattle.soundness.proofs.Inside.{fitsIn, Inside}
 

@@ -18,7 +18,7 @@ use Rattle.model.specs.Command.{command}
 use Rattle.model.specs.Sound.{nameOk, selectedOk, sound}
 use Rattle.model.specs.Events.{Reply, Names, withLife, withGp, withLoading, locked, absent, isName, namesIn, installForm, selectableForm, installedAs, installing, makingSelectable, install, select, lock, unlock, deselect, foreign, errs, commanded, storeData, stuck, personalizing, otherwise, event}
 use Rattle.soundness.specs.Keeps.{Kept, Keeps, Good}
-use Rattle.soundness.proofs.Tests.{and-l, and-r, and-i, or-r}
+use Rattle.lists.specs.Truth.{and-l, and-r, and-i, or-r}
 use Rattle.soundness.proofs.Parts.{sound-parts, sound-of-parts}
 use Rattle.soundness.proofs.Keeps.{command-keeps}
 use Rattle.soundness.proofs.Lives.{LifeOk, LifeOf, life-of, relived, made-selectable, installed, chosen, unchosen, locks, unlocks}

@@ -21,7 +21,7 @@ use Rattle.model.specs.Loads.{State, fileList, changed, withFile}
 use Rattle.model.specs.Rules.{Result, tableDone, described, tableByte, inTable, tableBytes}
 use Rattle.soundness.specs.Keeps.{Ends}
 use Rattle.soundness.specs.Opened.{TableOpen}
-use Rattle.soundness.proofs.Tests.{or-l, or-r}
+use Rattle.lists.specs.Truth.{or-l, or-r}
 use Rattle.soundness.proofs.Ends.{then-ends}
 use Rattle.soundness.proofs.Within.{table-more}
 use Rattle.soundness.proofs.Opened.{table-facts}

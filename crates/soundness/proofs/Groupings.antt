@@ -22,7 +22,8 @@ use Rattle.soundness.proofs.Inside.{InsideOf, Steady}
 use Rattle.soundness.proofs.Changes.{row-taken, secret-kept, table-begun, record-begun}
 use Rattle.soundness.proofs.Feeding.{InsideWith}
 use Rattle.soundness.proofs.Feeds.{Going, Walks, tableSome, fed-walks, shut-some, taken-length}
-use Rattle.soundness.proofs.RowFacts.{by-span, secret-most, room-most, due-untaken, table-length, record-room, length-most}
+use Rattle.soundness.proofs.RowFacts.{by-span, secret-most, room-most, due-untaken, table-length, record-room}
+use Rattle.model.proofs.Laws.{length-most}
 
 -- a state with nothing open
 pub record Closed (k : ℕ) (s : State) : Type 0 where

@@ -19,7 +19,7 @@ use Rattle.model.specs.Rules.{Result, tagSpot}
 use Rattle.model.specs.Command.{isShut}
 use Rattle.model.specs.Sound.{gpOk, nameOk, selectedOk, tableOpen, secretsOk, tableFits, recordFits, pendingFits, someMissing, openOk}
 use Rattle.soundness.specs.Keeps.{Kept, Ends}
-use Rattle.soundness.proofs.Tests.{and-r, and-i, or-l, or-r, or-left}
+use Rattle.lists.specs.Truth.{and-r, and-i, or-l, or-r, or-left}
 use Rattle.soundness.proofs.Parts.{sound-parts, sound-of-parts}
 
 -- an open value fits: the rows, the number of descriptors, the descriptors

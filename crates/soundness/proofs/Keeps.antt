@@ -18,7 +18,8 @@ use Rattle.soundness.specs.Keeps.{Kept, Keeps, Onward, GoesOn, Ruled}
 use Rattle.soundness.proofs.Ends.{ends-weaken}
 use Rattle.soundness.proofs.Parts.{sound-parts}
 use Rattle.soundness.proofs.Inside.{Staying, fits-same, Steady, Personal, steady-of, kept-of}
-use Rattle.soundness.proofs.RowFacts.{room-most, length-most}
+use Rattle.soundness.proofs.RowFacts.{room-most}
+use Rattle.model.proofs.Laws.{length-most}
 use Rattle.soundness.proofs.Feeding.{Misses, Fed, tableBytes-fed}
 use Rattle.soundness.proofs.Feeds.{Going, Walks, some-table, fed-walks}
 use Rattle.soundness.proofs.Groupings.{Closed, opening, spans-open, shut-is, steady-closed, whole-walks, spanned-walks, ruleH-walks}

@@ -12,7 +12,7 @@ use Rattle.model.specs.declared.Loading.{Loading}
 use Rattle.model.specs.Rows.{taken}
 use Rattle.model.specs.Sound.{gpOk, internalOk, nameOk, selectedOk, tableOpen, openOk, soundWith}
 use Rattle.model.specs.Events.{nameLength}
-use Rattle.soundness.proofs.Tests.{and-r, or-l, or-r, or-elim}
+use Rattle.lists.specs.Truth.{and-r, or-l, or-r, or-elim}
 use Rattle.soundness.proofs.Parts.{sound-parts, sound-of-parts}
 
 -- what sound asks of the life of a card: its GP state, selected, the name's length, beside the internal state and the rows

@@ -17,7 +17,7 @@ use Rattle.model.specs.Loads.{fileList}
 use Rattle.model.specs.Rules.{tagSpot}
 use Rattle.model.specs.Sound.{tableFits, recordFits, pendingFits, soundWith}
 use Rattle.soundness.specs.Opened.{TableOpen, RecordOpen}
-use Rattle.soundness.proofs.Tests.{and-l, and-r}
+use Rattle.lists.specs.Truth.{and-l, and-r}
 use Rattle.soundness.proofs.Parts.{sound-parts}
 use Rattle.soundness.proofs.Within.{spot-within, total-passes}
 

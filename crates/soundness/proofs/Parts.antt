@@ -8,7 +8,7 @@ use Rattle.model.specs.declared.Loading.{Loading}
 use Rattle.model.specs.Table.{tableLimit}
 use Rattle.model.specs.Sound.{soundWith}
 use Rattle.soundness.specs.Parts.{SoundParts}
-use Rattle.soundness.proofs.Tests.{and-l, and-r, and-i}
+use Rattle.lists.specs.Truth.{and-l, and-r, and-i}
 
 pub sound-parts : (f : Life) (l : Loading) → soundWith f l ≡ true → SoundParts f l
 unfolding soundWith

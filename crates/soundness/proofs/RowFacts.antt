@@ -10,13 +10,13 @@ use borrow.Author.Tests.{eqb-true, ne-eqb, leb-true}
 use Rattle.lists.specs.Choice.{by-cond}
 use Rattle.model.specs.declared.Descriptor.{Descriptor}
 use Rattle.model.specs.declared.Row.{Row}
-use Rattle.model.specs.declared.Spot.{Spot}
-use Rattle.model.specs.declared.Spot.the-variants.{Nowhere, At}
+use Rattle.model.specs.declared.Spot.the-variants.{At}
 use Rattle.model.specs.declared.Verdict.the-variants.{Passes}
 use Rattle.model.specs.Rows.{bit, rowTable, rowAt, rowFrom, rowOf, inRow, taken, noneFrom, readyFor, due, tableRoom, descriptorSize, secretRoom}
-use Rattle.model.specs.Rules.{tagSpot, roomIn, roomOf, lengthOk}
-use Rattle.soundness.proofs.Tests.{and-l, and-r}
+use Rattle.model.specs.Rules.{tagSpot, roomOf, lengthOk}
+use Rattle.lists.specs.Truth.{and-l, and-r}
 use Rattle.soundness.proofs.Taking.{by-row}
+use Rattle.model.proofs.Laws.{room-spot}
 
 rowFrom-below : (xs : List Row) (tag r : ℕ) → 1 ≤ r → rowFrom tag r xs < r + length xs
 unfolding rowFrom
@@ -80,14 +80,8 @@ table-length files tag room len e h =
     (omega arith, omega arith, eqb-true (len % 18) 0 (search (and-l, and-r)))
 
 -- rule e passes an 'ssnn' with its record's size
-pub room-spot : (x : Spot) (room : ℕ) → roomIn x ≡ Passes room → (base : ℕ) × (x ≡ At base room)
-room-spot Nowhere room e = absurd (let z : _≡_ {A = ℕ} 0 1 = cc in omega arith)
-room-spot (At base size) room e = (base, cc)
-
 pub record-room : (files : List Descriptor) (tag room : ℕ) → roomOf files 11 tag ≡ Passes room → (base : ℕ) × (tagSpot files tag ≡ At base room)
 unfolding roomOf
 record-room files tag room e = room-spot (tagSpot files tag) room e
 
 -- rule f's most
-pub length-most : (row room len : ℕ) → lengthOk row room len ≡ true → len ≤ room
-length-most row room len h = leb-true len room (search (and-l, and-r))

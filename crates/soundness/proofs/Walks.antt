@@ -16,7 +16,7 @@ use Rattle.model.specs.Loads.{State, fileList, changed, withInternal, withTaken
 use Rattle.model.specs.Rules.{Result, Rule, thence, _>>_, judged, unless, isQuery, aloneAtStart, bit1, bit8, challenged, query, ruleA, ruleB, ruleC, dueRow, ruleD, roomOf, ruleE, lengthOk, ruleF, ruleG, fed, grouping}
 use Rattle.model.specs.Command.{isShut, walk, ready, theEnd, command}
 use Rattle.soundness.specs.Keeps.{Ends}
-use Rattle.soundness.proofs.Tests.{and-r}
+use Rattle.lists.specs.Truth.{and-r}
 use Rattle.soundness.proofs.Ends.{then-ends, judged-then, head-then}
 use Rattle.soundness.proofs.Inside.{Staying, Steady}
 use Rattle.soundness.proofs.Changes.{begun, ended}

@@ -19,7 +19,7 @@ use Rattle.model.specs.declared.Spot.the-variants.{Nowhere, At}
 use Rattle.model.specs.Stored.{noFile, areaSize}
 use Rattle.model.specs.Table.{binary, simulated, sizeOf, total, admitOf, passed, tablePasses, spotIn, spotFrom, spotOf, rulesOk}
 use Rattle.model.specs.Loads.{fileList, withFile}
-use Rattle.soundness.proofs.Tests.{and-l, and-r, and-i}
+use Rattle.lists.specs.Truth.{and-l, and-r, and-i}
 
 -- a place that ends by n
 abbrev LiesBy : ℕ → Spot → Type 0

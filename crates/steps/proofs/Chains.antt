@@ -25,7 +25,7 @@ use Rattle.steps.specs.declared.Course.{Course}
 use Rattle.steps.specs.declared.Course.the-variants.{Keeps, Lays, Feeds, Asked, Failed}
 use Rattle.steps.specs.declared.Step.{Step}
 use Rattle.steps.specs.Steps.{on, endedAs, Judges}
-use Rattle.steps.specs.Stages.{fromF, fromE, fromD, fromC, fromB}
+use Rattle.model.specs.Stages.{fromF, fromE, fromD, fromC, fromB}
 
 module _ (capacity row room : ℕ) (h : Head) (bytes : List ℕ) (s : State) where
   pub f-refuses : lengthOk row room (h .len) ≡ false → fromF capacity row room h bytes s ≡ failed 0x6700 s

@@ -24,7 +24,7 @@ use Rattle.soundness.proofs.Feeding.{Fed}
 use Rattle.steps.specs.declared.Course.{Course}
 use Rattle.steps.specs.declared.Course.the-variants.{Keeps, Lays, Feeds, Asked, Failed}
 use Rattle.steps.specs.declared.Step.{Step}
-use Rattle.steps.specs.Stages.{Sized}
+use Rattle.steps.specs.Lengths.{Sized}
 
 abbrev pub stateOf : Loading → List ℕ → State
 stateOf l a = record { load = l; area = a }

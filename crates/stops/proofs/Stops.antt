@@ -13,7 +13,7 @@ use Rattle.lists.specs.Bytes.{zeros, part, word, wordAt, padded-full}
 use Rattle.lists.specs.Over.{overwrite, over-padded}
 use Rattle.model.specs.Rows.{rowTable, rowAt, missingFrom}
 use Rattle.model.specs.Rules.{tagSpot, roomIn, roomOf, lengthOk}
-use Rattle.steps.specs.Stages.{fitsRow}
+use Rattle.steps.specs.Lengths.{fitsRow}
 use Rattle.model.specs.declared.Descriptor.{Descriptor}
 use Rattle.model.specs.declared.Head.{Head}
 use Rattle.model.specs.declared.Row.{Row}

@@ -1,10 +1,14 @@
 // Why a grouping of an order is not taken: the first of rules a to h, or of the file table's, that it breaks. The word that
 // refuses it does not tell as much.
 use flaws::Flaw;
+use model::DESCRIPTOR_SIZE;
 use model::Head;
 use model::Header;
 use model::Loading;
+use model::RECORD_ROW;
+use model::ROW_COUNT;
 use model::Spot;
+use model::TABLE_ROW;
 ghost use mathlib.Core.Path.{_≡_};
 ghost use Prim.Native.Nat.{_+_, _-_, _*_, _≤_, _<_};
 ghost use lib.ListN.{length, drop};
@@ -17,14 +21,6 @@ const FRONT_SIZE: usize = 3;
 const LONG_SIZE: usize = 5;
 
 const TAG_SIZE: usize = 2;
-
-const DESCRIPTOR_SIZE: usize = 18;
-
-const TABLE_ROW: usize = 5;
-
-const RECORD_ROW: usize = 11;
-
-const ROW_COUNT: usize = 11;
 
 // By the rules' letters. a: a header of which so many bytes are left; its length is 'FFFF'. b: a query. d: the tag is unknown; a
 // mandatory row, this one first, has not come before it; it or a later row has; the record before has this tag. e: no file has

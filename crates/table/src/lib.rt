@@ -1,16 +1,13 @@
 // The file table: a descriptor judged after those before it.
+use model::AREA_SIZE;
 use model::Descriptor;
+use model::SIMULATED;
+use model::TABLE_LIMIT;
 use model::Verdict;
 ghost use mathlib.Core.Path.{_≡_};
 ghost use Prim.Native.Nat.{_+_, _*_, _≤_, _<_};
 ghost use lib.ListN.{take};
 ghost use Rattle.model.specs.Table.{passed, clashes, counterAmong, dataRefOk, efOk, rulesOk, total, admitOf, tablePasses};
-
-const TABLE_LIMIT: usize = 31;
-
-const AREA_SIZE: usize = 4096;
-
-const SIMULATED: u8 = 0x08;
 
 fn clashes_with(d: Descriptor, files: [Descriptor; 31], count: usize) -> bool
     requires { ⌜ count ≤ 31 ⌝ }

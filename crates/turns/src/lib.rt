@@ -3,6 +3,7 @@ use events::Replied;
 use load::End;
 use load::Said;
 use model::Card;
+use model::DATA_PLACE;
 use model::Loading;
 use model::Open;
 use model::Played;
@@ -21,8 +22,6 @@ ghost use Rattle.load.specs.Ends.{settledCard};
 ghost use Rattle.events.specs.Lives.{livedAs};
 ghost use Rattle.events.specs.Plays.{Plays};
 ghost use Rattle.turns.specs.Told.{endAnswer};
-
-const DATA_PLACE: usize = 4;
 
 // A card that locks, or not, with this loading part.
 fn settled_card(mut c: Card, mut load: Loading, x: Said) -> Card

@@ -6,9 +6,9 @@ use native.Mathlib.Omega.{arith}
 use borrow.Author.Tests.{leb-true}
 use Rattle.model.specs.Rows.{rowTable, rowAt}
 use Rattle.model.specs.Rules.{lengthOk}
-use Rattle.soundness.proofs.Tests.{and-l, and-r}
+use Rattle.lists.specs.Truth.{and-l, and-r}
 use Rattle.soundness.proofs.Taking.{by-row}
-use Rattle.steps.specs.Stages.{Sized}
+use Rattle.steps.specs.Lengths.{Sized}
 
 -- no row's step is 0
 pub row-steps : (r : ℕ) → 1 ≤ r → r ≤ 11 → 1 ≤ rowAt r .step
@@ -39,5 +39,3 @@ sized-of room n r a b e p h =
     row-sizes n r a b e x (omega arith)
 
 -- a value has its room
-pub fits-most : (r room n : ℕ) → lengthOk r room n ≡ true → n ≤ room
-fits-most r room n h = leb-true n room (search (and-l, and-r))

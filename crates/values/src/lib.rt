@@ -3,6 +3,7 @@ use model::Head;
 use model::Open;
 use model::Row;
 use model::Running;
+use model::TABLE_ROW;
 use steps::Course;
 use steps::Step;
 ghost use mathlib.Core.Path.{_≡_};
@@ -14,10 +15,9 @@ ghost use Rattle.model.specs.declared.Loading.{Loading};
 ghost use Rattle.model.specs.Stored.{areaSize};
 ghost use Rattle.model.specs.Rows.{rowAt};
 ghost use Rattle.model.specs.Rules.{spanned, lengthOk};
-ghost use Rattle.steps.specs.Stages.{fromF, fitsRow};
+ghost use Rattle.model.specs.Stages.{fromF};
+ghost use Rattle.steps.specs.Lengths.{fitsRow};
 ghost use Rattle.steps.specs.Steps.{on, Judges, Roomed};
-
-const TABLE_ROW: usize = 5;
 
 // Rule h of a value that may run on; it begins at `at`, and a record that it is for at `base`.
 fn spanned_at(p: Running, row: usize, base: usize, h: Head, d: &[u8], at: usize) -> Step

@@ -1,20 +1,14 @@
 -- How many events a register tells: no other number of lines can make it whole.
 use Prim.Native.Nat.{ℕ, _+_, _*_, _-_, _≤_, _<_}
-use mathlib.Core.Path.{_≡_, refl}
-use mathlib.Core.Bool.{Bool, true, false, _&&_}
+use mathlib.Core.Path.{_≡_}
+use mathlib.Core.Bool.{true, false, _&&_}
 use mathlib.Core.List.{List}
 use native.Mathlib.Omega.{arith}
 use lib.Dec.{eqb, leb}
 use lib.ListN.{length}
 use borrow.Author.Tests.{eqb-true, leb-true, le-leb, lt-leb, eq-eqb, ne-eqb}
 use Rattle.whole.specs.Whole.{lineSize, endSize, mostEvents, endsAs, lastLoaded, wholeBy, linesIn, wholeRegister, eventsWhole}
-
-never : {A : Type 0} → false ≡ true → A
-never e = let z : _≡_ {A = ℕ} 0 1 = cc in absurd (omega arith)
-
-both : (t : Bool) {u : Bool} → (t && u) ≡ true → (t ≡ true) × (u ≡ true)
-both true e = (refl, e)
-both false e = never e
+use Rattle.lists.specs.Truth.{both}
 
 module _ (n : ℕ) (s : List ℕ) (so : wholeBy n s ≡ true) where
   numbers : (1 ≤ n) × (length s ≡ n * lineSize + endSize)

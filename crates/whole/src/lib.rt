@@ -1,11 +1,10 @@
 // Whether a register is whole, and of a loaded card: a lot that is resumed leaves such a card alone.
+use model::LINE_SIZE;
 ghost use mathlib.Core.Path.{_≡_};
 ghost use Prim.Native.Nat.{_+_, _*_, _≤_};
 ghost use lib.ListN.{length};
 ghost use Rattle.lists.specs.Bytes.{part, same};
 ghost use Rattle.whole.specs.Whole.{endsAs, lastLoaded, eventsWhole};
-
-const LINE_SIZE: usize = 26;
 
 // A line, and END.
 const LEAST_SIZE: usize = 36;
@@ -36,7 +35,7 @@ fn ends_as(n: usize, register: &[u8]) -> bool
     requires { ⌜ n * 26 + 10 ≤ length (now register) ⌝ }
     ensures { λ r. ⌜ r ≡ endsAs n (now (register .entry)) ⌝ }
 {
-    let mut end = [0u8; ending::END_SIZE];
+    let mut end = [0u8; model::END_SIZE];
     ending::put_end(&mut end, 0, n as u64);
     reads(register, n * LINE_SIZE, &end)
 }
@@ -56,11 +55,11 @@ pub fn events_in(register: &[u8]) -> usize
     if register.len() < LEAST_SIZE {
         return 0;
     }
-    let n = (register.len() - ending::END_SIZE) / LINE_SIZE;
+    let n = (register.len() - model::END_SIZE) / LINE_SIZE;
     if MOST_EVENTS < n {
         return 0;
     }
-    if register.len() != n * LINE_SIZE + ending::END_SIZE {
+    if register.len() != n * LINE_SIZE + model::END_SIZE {
         return 0;
     }
     if ends_as(n, register) {

@@ -1,4 +1,6 @@
 // The writer: an order that is complete for a chip, cut into records.
+use model::ORDER_LIMIT;
+use model::RECORD_SIZE;
 use model::Written;
 ghost use mathlib.Core.List.{List};
 ghost use Prim.Native.Nat.{ℕ, _≤_};
@@ -6,10 +8,6 @@ ghost use lib.ListN.{length};
 ghost use Rattle.model.specs.Order.{complete, recordsFor, noWriting, writeOf};
 ghost use Rattle.cuts.specs.Cuts.{cuttable};
 ghost use Rattle.complete.specs.Writes.{Writes, cutFor};
-
-const ORDER_LIMIT: usize = 8192;
-
-const RECORD_SIZE: usize = 260;
 
 // A refusal: 0 records.
 fn refused_by(number: u8) -> Written

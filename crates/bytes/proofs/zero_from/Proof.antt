@@ -3,7 +3,8 @@ use mathlib.Core.Path.{_≡_, refl, sym, _∙_}
 use lib.ListN.{length, drop}
 use mathlib.Core.Bool.{_&&_}
 use mathlib.Core.Logic.{⊎-elim}
-use Rattle.lists.specs.Bytes.{allZero, zero-step, zero-stop, zero-end, and-false, and-true}
+use Rattle.lists.specs.Bytes.{allZero, zero-step, zero-stop, zero-end}
+use Rattle.lists.specs.Truth.{and-false, and-true}
 use denote.Ref.{now}
 use borrow.Author.Needs.{needs}
 use Rattle.bytes.proofs.zero_from.Statement.{statement}

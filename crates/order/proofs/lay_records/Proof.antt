@@ -6,7 +6,8 @@ use denote.Ref.{now}
 use borrow.Author.Needs.{needs}
 use Rattle.lists.specs.Over.{length-over}
 use Rattle.model.specs.Stored.{recordSize}
-use Rattle.order.proofs.Records.{Laid, laid-none, laid-more, laid-last, start-within, laid-all, length-records}
+use Rattle.order.proofs.Records.{Laid, laid-none, laid-more, laid-last, start-within, laid-all}
+use Rattle.model.proofs.Laws.{length-written}
 use Rattle.cuts.proofs.Commands.{fitting-start}
 use Rattle.order.proofs.lay_records.Statement.{statement}
 use Rattle.order.proofs.lay_records.Tie as tie
@@ -20,7 +21,7 @@ abbrev μ-loop : tie.MeasureT-loop
 lay-record-requires : tie.Need-lay-record-requires Inv-loop μ-loop
 lay-record-requires c κs =
     let s = c .before .before .before .before in
-    (omega arith, omega (arith, length-records (now (s .args .order)), s .pre .1))
+    (omega arith, omega (arith, length-written (now (s .args .order)), s .pre .1))
 
 command-end-requires : tie.Need-command-end-requires Inv-loop μ-loop
 command-end-requires c κs =
@@ -31,7 +32,7 @@ loop-holds : tie.Need-loop-holds Inv-loop μ-loop
 loop-holds c =
     let f = c .before .before .before .lay-record in
     let s = c .before .before .before .before .before .before .before .before in
-    let n = length-records (now (s .args .order)) in
+    let n = length-written (now (s .args .order)) in
     laid-none (now (s .args .order)) (f .last .0) recordSize (c .command-end .result) (c .command-end .ensures)
     (rw (f .ensures, length-over) (omega (arith, n, s .pre .1)))
 

@@ -12,7 +12,8 @@ use borrow.Author.Tests.{le-leb, lt-leb}
 use Rattle.model.specs.Rules.{lengthOk}
 use Rattle.steps.specs.Steps.{on}
 use Rattle.steps.proofs.Chains.{f-refuses, f-spans, f-whole, f-cut}
-use Rattle.values.proofs.Sizes.{row-steps, sized-of, fits-most}
+use Rattle.values.proofs.Sizes.{row-steps, sized-of}
+use Rattle.model.proofs.Laws.{length-most}
 
 fits-row-requires : tie.Need-fits-row-requires
 fits-row-requires c κs =
@@ -23,7 +24,7 @@ spanned-at-requires c κs =
     let s = c .before .before .before .before .before .before in
     let r = c .before .before .before .before .row-at .ensures in
     let k : lengthOk (s .args .row) (s .args .room) (s .args .h .len) ≡ true = rw (← r, ← c .before .before .fits-row .ensures) (c .before .if1 .taken) in
-    (s .pre .0, s .pre .1, rw (← r) (c .if2 .taken), omega (arith, fits-most (s .args .row) (s .args .room) (s .args .h .len) k), s .pre .5)
+    (s .pre .0, s .pre .1, rw (← r) (c .if2 .taken), omega (arith, length-most (s .args .row) (s .args .room) (s .args .h .len) k), s .pre .5)
 
 returns : tie.Need-returns
 returns c =

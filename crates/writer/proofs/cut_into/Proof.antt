@@ -4,40 +4,40 @@ use lib.ListN.{length}
 use denote.Ref.{now}
 use borrow.Author.Needs.{needs}
 use Rattle.writer.proofs.Numbers.{no-room, has-room}
-use Rattle.order.proofs.Records.{length-records}
+use Rattle.model.proofs.Laws.{length-written}
 use Rattle.writer.proofs.cut_into.Statement.{statement}
 use Rattle.writer.proofs.cut_into.Tie as tie
 
 add-count : tie.Need-add-count
 add-count c =
     let s = c .before .before .before in
-    let n = length-records (now (s .args .order)) in
+    let n = length-written (now (s .args .order)) in
     rw (c .command-count .ensures) (omega arith)
 
 mul-if1 : tie.Need-mul-if1
 mul-if1 c =
     let s = c .before .before .before in
-    let n = length-records (now (s .args .order)) in
+    let n = length-written (now (s .args .order)) in
     rw (c .command-count .ensures) (omega arith)
 
 returns : tie.Need-returns
 returns c =
     let s = c .before .before .before .before .before in
-    let n = length-records (now (s .args .order)) in
+    let n = length-written (now (s .args .order)) in
     let e = c .before .before .command-count .ensures in
     rw (no-room (now (s .args .order)) (length (now (s .args .room))) (omega arith)) (c .refused-by .ensures (now (s .args .room)))
 
 lay-records-requires : tie.Need-lay-records-requires
 lay-records-requires c κs =
     let s = c .before .before .before .before .before in
-    let n = length-records (now (s .args .order)) in
+    let n = length-written (now (s .args .order)) in
     let e = c .before .before .command-count .ensures in
     (s .pre .0, omega arith)
 
 returns-2 : tie.Need-returns-2
 returns-2 c =
     let s = c .before .before .before .before .before .before .before .before in
-    let n = length-records (now (s .args .order)) in
+    let n = length-written (now (s .args .order)) in
     let e = c .before .before .before .before .before .command-count .ensures in
     rw (has-room (now (s .args .order)) (length (now (s .args .room))) (omega arith))
     (record { number = refl; count = omega arith; room = c .before .before .lay-records .ensures })

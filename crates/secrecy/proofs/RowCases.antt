@@ -1,4 +1,4 @@
--- A grouping's rules from one of them on, and a tag's row case by case: what proofs that go through the rules go by.
+-- A tag's row, case by case: what proofs that go through the rules go by.
 use Prim.Native.Nat.{ℕ, _-_}
 use mathlib.Core.Path.{_≡_, subst}
 use mathlib.Core.Bool.{Bool, true, false, _&&_, and-eq-true-iff, true≢false}
@@ -11,37 +11,6 @@ use Rattle.lists.specs.Choice.{by-cond}
 use Rattle.model.specs.declared.Head.{Head}
 use Rattle.model.specs.Rows.{rowOf, rowTable, rowFrom}
 use Rattle.model.specs.Rules.{Rule, _>>=_, _>>_, isQuery, ruleB, ruleC, ruleD, ruleE, ruleF, ruleG, ruleH}
-
--- the rules from one of them on
-abbrev pub fromG : ℕ → ℕ → Head → List ℕ → Rule (List ℕ)
-fromG capacity row h b = do
-  ruleG row (h .len) (length b - h .size)
-  ruleH capacity row h (drop (h .size) b)
-
-abbrev pub fromF : ℕ → ℕ → ℕ → Head → List ℕ → Rule (List ℕ)
-fromF capacity row room h b = do
-  ruleF row room (h .len)
-  fromG capacity row h b
-
-abbrev pub fromE : ℕ → ℕ → Head → List ℕ → Rule (List ℕ)
-fromE capacity row h b = do
-  room ← ruleE row (h .tag)
-  fromF capacity row room h b
-
-abbrev pub fromD : ℕ → Head → List ℕ → Rule (List ℕ)
-fromD capacity h b = do
-  row ← ruleD (h .tag)
-  fromE capacity row h b
-
-abbrev pub fromC : ℕ → Head → List ℕ → Rule (List ℕ)
-fromC capacity h b = do
-  ruleC
-  fromD capacity h b
-
-abbrev pub fromB : ℕ → ℕ → ℕ → Head → List ℕ → Rule (List ℕ)
-fromB capacity n p1 h b = do
-  ruleB n p1 b h
-  fromC capacity h b
 
 -- '9484' is the only tag of row 1
 is-challenge : (tag : ℕ) → (leb 0x9484 tag && leb tag 0x9484) ≡ true → tag ≡ 0x9484
