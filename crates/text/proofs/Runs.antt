@@ -11,7 +11,9 @@ use Rattle.text.specs.declared.Given.{Given}
 use Rattle.text.specs.declared.Given.the-variants.{Nothing, Byte}
 use Rattle.text.specs.declared.Place.{Place}
 use Rattle.text.specs.declared.Reading.{Reading}
-use Rattle.text.specs.Places.{step, byteOf, bytesIn, linesIn}
+use Rattle.text.specs.declared.Mode.the-variants.{Between}
+use Rattle.text.specs.Places.{place, more, step, byteOf, bytesIn, linesIn}
+use Rattle.text.specs.Pairs.{Pair}
 use Rattle.text.specs.Text.{placeFrom, bytesFrom, linesFrom, placeOf, reading, reached}
 use Rattle.text.proofs.Laying.{over-room}
 
@@ -56,11 +58,8 @@ module _ (p₀ : Place) (n₀ : ℕ) (out₀ lines₀ : List ℕ) where
 
   module _ (same : length lines₀ ≡ length out₀) {xs : List ℕ} {p : Place} {n : ℕ} {out lines : List ℕ}
       (h : Laid p₀ n₀ out₀ lines₀ xs p n out lines) where
-    pub laid-room : length lines ≡ length out
-    laid-room = simp (h .bytes, h .starts, length-over) same
-
-    pub laid-count : n ≤ length out
-    laid-count = rw (h .count, h .bytes, length-over) (omega arith)
+    pub laid-fits : (length lines ≡ length out) × (n ≤ length out)
+    laid-fits = (simp (h .bytes, h .starts, length-over) same, rw (h .count, h .bytes, length-over) (omega arith))
 
     pub laid-then : {ys : List ℕ} {p′ : Place} {n′ : ℕ} {out′ lines′ : List ℕ} → Laid p n out lines ys p′ n′ out′ lines′
         → Laid p₀ n₀ out₀ lines₀ (xs ++ ys) p′ n′ out′ lines′
@@ -108,3 +107,27 @@ module _ {p p′ : Place} {n n′ x : ℕ} {out lines out′ lines′ : List ℕ
       → Laid p₀ n₀ out₀ lines₀ (take (i + 1) chars) p′ n′ out′ lines′
   laid-turn p₀ n₀ out₀ lines₀ chars i same h e k =
       rw (add-one, take-suc chars i 0 h, ← e) (laid-then p₀ n₀ out₀ lines₀ same k laid-one)
+
+-- Two digits between pairs, in one turn.
+module _ {p p′ : Place} {n n′ x y b : ℕ} {out lines out′ lines′ : List ℕ}
+    (h : Pair (p .mode) x y b) (placed : p′ ≡ place Between (p .line) (more (more (p .column))))
+    (count : n′ ≡ min (n + 1) (length out))
+    (bytes : out′ ≡ overwrite out n (b ∷ [])) (starts : lines′ ≡ overwrite lines n (p .line ∷ [])) where
+  laid-pair : Laid p n out lines (x ∷ y ∷ []) p′ n′ out′ lines′
+  unfolding placeFrom bytesFrom linesFrom
+  laid-pair =
+      record {
+        place = rw (h .between, h .high, h .low) placed;
+        count = rw (h .between, h .high, h .low) count;
+        bytes = rw (h .between, h .high, h .low, ← h .byte) bytes;
+        starts = rw (h .between, h .high, h .low) starts;
+      }
+
+  pub laid-two : (p₀ : Place) (n₀ : ℕ) (out₀ lines₀ chars : List ℕ) (i : ℕ)
+      → length lines₀ ≡ length out₀ → i + 1 < length chars → x ≡ getD chars i 0 → y ≡ getD chars (i + 1) 0
+      → Laid p₀ n₀ out₀ lines₀ (take i chars) p n out lines
+      → Laid p₀ n₀ out₀ lines₀ (take (i + 1 + 1) chars) p′ n′ out′ lines′
+  laid-two p₀ n₀ out₀ lines₀ chars i same l ex ey k =
+      let h₁ : i < length chars = omega arith in
+      rw (add-one (i + 1), take-suc chars (i + 1) 0 l, ← ey, add-one i, take-suc chars i 0 h₁, ← ex, append-assoc)
+      (laid-then p₀ n₀ out₀ lines₀ same k laid-pair)

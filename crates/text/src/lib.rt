@@ -6,6 +6,7 @@ ghost use Rattle.lists.specs.Over.{overwrite};
 ghost use Rattle.text.specs.Characters.{signOf, sortOf};
 ghost use Rattle.text.specs.Places.{place, more, fromBetween, fromHalf, fromComment, fromMark, step};
 ghost use Rattle.text.specs.Places.{pairOf, byteOf, bytesIn, linesIn};
+ghost use Rattle.text.specs.Pairs.{valuesFrom, PairIn};
 ghost use Rattle.text.specs.Text.{begun, reached, laidBytes, laidLines, endIn, ended};
 
 // Lines and columns stop here.
@@ -15,6 +16,28 @@ const LAST: u32 = 0xFFFF_FFFF;
 const NO_DIGIT: u8 = 1;
 
 const HALF_BYTE: u8 = 2;
+
+// No digit's value.
+const NO_VALUE: u8 = 0x10;
+
+// At each character the value of the digit that it is, or `NO_VALUE`.
+const VALUES: [u8; 256] = *b"\
+    \x10\x10\x10\x10\x10\x10\x10\x10\x10\x10\x10\x10\x10\x10\x10\x10\
+    \x10\x10\x10\x10\x10\x10\x10\x10\x10\x10\x10\x10\x10\x10\x10\x10\
+    \x10\x10\x10\x10\x10\x10\x10\x10\x10\x10\x10\x10\x10\x10\x10\x10\
+    \x00\x01\x02\x03\x04\x05\x06\x07\x08\x09\x10\x10\x10\x10\x10\x10\
+    \x10\x0A\x0B\x0C\x0D\x0E\x0F\x10\x10\x10\x10\x10\x10\x10\x10\x10\
+    \x10\x10\x10\x10\x10\x10\x10\x10\x10\x10\x10\x10\x10\x10\x10\x10\
+    \x10\x0A\x0B\x0C\x0D\x0E\x0F\x10\x10\x10\x10\x10\x10\x10\x10\x10\
+    \x10\x10\x10\x10\x10\x10\x10\x10\x10\x10\x10\x10\x10\x10\x10\x10\
+    \x10\x10\x10\x10\x10\x10\x10\x10\x10\x10\x10\x10\x10\x10\x10\x10\
+    \x10\x10\x10\x10\x10\x10\x10\x10\x10\x10\x10\x10\x10\x10\x10\x10\
+    \x10\x10\x10\x10\x10\x10\x10\x10\x10\x10\x10\x10\x10\x10\x10\x10\
+    \x10\x10\x10\x10\x10\x10\x10\x10\x10\x10\x10\x10\x10\x10\x10\x10\
+    \x10\x10\x10\x10\x10\x10\x10\x10\x10\x10\x10\x10\x10\x10\x10\x10\
+    \x10\x10\x10\x10\x10\x10\x10\x10\x10\x10\x10\x10\x10\x10\x10\x10\
+    \x10\x10\x10\x10\x10\x10\x10\x10\x10\x10\x10\x10\x10\x10\x10\x10\
+    \x10\x10\x10\x10\x10\x10\x10\x10\x10\x10\x10\x10\x10\x10\x10\x10";
 
 // What a character is by itself.
 pub enum Sort {
@@ -212,6 +235,31 @@ fn byte_of(mode: Mode, x: u8) -> Given
     }
 }
 
+// The table as a local of the reader's, since a constant is laid out anew wherever it is used.
+fn digit_values() -> [u8; 256]
+    ensures { λ r. ⌜ r ≡ valuesFrom 0 256 ⌝ }
+{
+    VALUES
+}
+
+// The byte of two digits between pairs, as most characters of a text are: read in one turn, and by the table, since no
+// processor foresees which digits are letters.
+fn pair_between(values: &[u8; 256], mode: Mode, x: u8, y: u8) -> Given
+    requires { ⌜ now values ≡ valuesFrom 0 256 ⌝ }
+    ensures { λ r. ⌜ PairIn mode x y r ⌝ }
+{
+    if let Mode::Between = mode {
+        let high = values[x as usize];
+        let low = values[y as usize];
+        if high < NO_VALUE {
+            if low < NO_VALUE {
+                return Given::Byte(high * 16 + low);
+            }
+        }
+    }
+    Given::Nothing
+}
+
 // A byte laid where there is room for it, and its line. How many are laid then.
 fn lay(g: Given, line: u32, n: usize, out: &mut [u8], lines: &mut [u32]) -> usize
     requires { ⌜ (length (now lines) ≡ length (now out)) × (n ≤ length (now out)) ⌝ }
@@ -247,6 +295,7 @@ pub fn read(r: Reading, chars: &[u8], out: &mut [u8], lines: &mut [u32]) -> Read
     requires { ⌜ (length (now lines) ≡ length (now out)) × (r .count ≤ length (now out)) ⌝ }
     ensures { λ s. ⌜ (s ≡ reached (length (now (out .entry))) r (now (chars .entry))) × (now (out .exit) ≡ laidBytes r (now (chars .entry)) (now (out .entry))) × (now (lines .exit) ≡ laidLines r (now (chars .entry)) (now (lines .entry))) ⌝ }
 {
+    let values = digit_values();
     let mode = r.mode;
     let mut p = Place {
         mode: mode,
@@ -256,11 +305,22 @@ pub fn read(r: Reading, chars: &[u8], out: &mut [u8], lines: &mut [u32]) -> Read
     let mut n = r.count;
     let mut i: usize = 0;
     while i < chars.len() {
-        let x = chars[i];
         let mode = p.mode;
+        let j = i + 1;
+        if j < chars.len() {
+            let behind = j + 1;
+            let pair = pair_between(&values, mode, chars[i], chars[j]);
+            if let Given::Byte(_) = pair {
+                n = lay(pair, p.line, n, out, lines);
+                p = placed(Mode::Between, p.line, more(more(p.column)));
+                i = behind;
+                continue;
+            }
+        }
+        let x = chars[i];
         n = lay(byte_of(mode, x), p.line, n, out, lines);
         p = step(p, x);
-        i += 1;
+        i = j;
     }
     let mode = p.mode;
     Reading {
