@@ -7,12 +7,13 @@ use libc::EAGAIN;
 use libc::EINTR;
 use libc::STDOUT_FILENO;
 pub use source::Source;
-pub use source::asks_tell;
+pub use source::behind;
+pub use source::is_arg;
+pub use source::is_text_name;
 pub use source::label_buffer;
-pub use source::open_source;
-pub use source::started;
-pub use text::put_text;
+pub use source::open_last;
 pub use text::say;
+pub use text::say_fault;
 pub use text::say_form;
 ghost use mathlib.Core.Path.{_≡_};
 ghost use mathlib.Core.Bool.{cond};
@@ -156,6 +157,13 @@ pub fn print(label: &[u8], bytes: &[u8]) -> bool {
     }
     os::fail(label);
     false
+}
+
+// `good` says that all went out so far. Where a write fails, nothing is written behind it.
+pub fn print_on(good: &mut bool, label: &[u8], bytes: &[u8]) {
+    if *good {
+        *good = print(label, bytes);
+    }
 }
 
 // The statuses: done; something was refused by a number; not done, which was said on standard error.

@@ -1,9 +1,8 @@
 // What a program was started on.
-use crate::text::put_text;
 use crate::text::say;
 use libc::STDIN_FILENO;
 ghost use mathlib.Core.Path.{_≡_};
-ghost use Prim.Native.Nat.{_≤_};
+ghost use Prim.Native.Nat.{_+_, _≤_};
 ghost use lib.ListN.{length};
 ghost use Rattle.io.specs.Counts.{Counts};
 
@@ -14,26 +13,59 @@ pub fn label_buffer() -> [u8; 4128]
     [0; 4128]
 }
 
-// What a program reads: the descriptor, or -1 where that was said already; how long its label is; whether the program
-// is to tell its status.
+// Whether two words are the same.
+fn same(a: &[u8], b: &[u8]) -> bool {
+    if a.len() != b.len() {
+        return false;
+    }
+    let mut i: usize = 0;
+    while i < a.len() {
+        if a[i] != b[i] {
+            return false;
+        }
+        i += 1;
+    }
+    true
+}
+
+fn word_buffer() -> [u8; 16]
+    ensures { λ r. ⌜ 16 ≡ length r ⌝ }
+{
+    [0; 16]
+}
+
+// Whether argument i is this option. A longer one is no word here.
+pub fn is_arg(i: usize, option: &[u8]) -> bool {
+    let mut word = word_buffer();
+    let n = os::arg(i, &mut word);
+    same(&word[..n], option)
+}
+
+// The argument behind this one, where this one is an option that was given.
+pub fn behind(i: usize, given: bool) -> usize
+    requires { ⌜ i ≤ 8 ⌝ }
+    ensures { λ r. ⌜ r ≤ i + 1 ⌝ }
+{
+    if given {
+        return i + 1;
+    }
+    i
+}
+
+// Whether a name ends in .txt.
+pub fn is_text_name(name: &[u8]) -> bool {
+    let n = name.len();
+    if n < 4 {
+        return false;
+    }
+    same(&name[n - 4..], b".txt")
+}
+
+// What a program reads: the descriptor, or -1 where that was said already; how long its label is; and whether its name is that of a text.
 pub struct Source {
     pub fd: i32,
     pub labelled: usize,
-    pub tells: bool,
-}
-
-// Whether the first argument is `--tell`. A longer one is no word here.
-pub fn asks_tell() -> bool {
-    let mut word = [0u8; 6];
-    if os::arg(1, &mut word) != 6 {
-        return false;
-    }
-    is_tell(&word)
-}
-
-fn is_tell(word: &[u8; 6]) -> bool {
-    let front = word[0] == b'-' && word[1] == b'-' && word[2] == b't';
-    front && word[3] == b'e' && word[4] == b'l' && word[5] == b'l'
+    pub is_text: bool,
 }
 
 // Argument i behind what is filled of a label. How much is filled then: no more than before where there is none.
@@ -51,12 +83,12 @@ fn open_named(label: &mut [u8], filled: usize, i: usize) -> Source
 {
     let end = put_arg(label, filled, i);
     if os::errno() != 0 {
-        let other = put_text(label, filled, b"FILE");
+        let other = forms::put_text(label, filled, b"FILE");
         os::fail(&label[..other]);
         return Source {
             fd: -1,
             labelled: other,
-            tells: false,
+            is_text: false,
         };
     }
     let fd = os::open_read(&label[filled..end]);
@@ -66,28 +98,28 @@ fn open_named(label: &mut [u8], filled: usize, i: usize) -> Source
     Source {
         fd: fd,
         labelled: end,
-        tells: false,
+        is_text: is_text_name(&label[filled..end]),
     }
 }
 
 // What argument i names, or standard input where there is none. `program` is the label's start, as `replay: `.
-pub fn open_source(program: &[u8], i: usize, label: &mut [u8]) -> Source
+fn open_source(program: &[u8], i: usize, label: &mut [u8]) -> Source
     ensures { λ r. ⌜ Counts (r .labelled) (now (label .exit)) ⌝ }
 {
-    let filled = put_text(label, 0, program);
+    let filled = forms::put_text(label, 0, program);
     if i < os::arg_count() {
         return open_named(label, filled, i);
     }
     Source {
         fd: STDIN_FILENO,
-        labelled: put_text(label, filled, b"standard input"),
-        tells: false,
+        labelled: forms::put_text(label, filled, b"standard input"),
+        is_text: false,
     }
 }
 
-// As `open_source`, where nothing follows argument i.
-fn open_last(program: &[u8], i: usize, label: &mut [u8]) -> Source
-    requires { ⌜ i ≤ 2 ⌝ }
+// The same, where nothing follows argument i.
+pub fn open_last(program: &[u8], i: usize, label: &mut [u8]) -> Source
+    requires { ⌜ i ≤ 9 ⌝ }
     ensures { λ r. ⌜ Counts (r .labelled) (now (label .exit)) ⌝ }
 {
     if i + 1 < os::arg_count() {
@@ -95,23 +127,8 @@ fn open_last(program: &[u8], i: usize, label: &mut [u8]) -> Source
         return Source {
             fd: -1,
             labelled: 0,
-            tells: false,
+            is_text: false,
         };
     }
     open_source(program, i, label)
-}
-
-// What the arguments `[--tell] [FILE]` ask of a program.
-pub fn started(program: &[u8], label: &mut [u8]) -> Source
-    ensures { λ r. ⌜ Counts (r .labelled) (now (label .exit)) ⌝ }
-{
-    if asks_tell() {
-        let s = open_last(program, 2, label);
-        return Source {
-            fd: s.fd,
-            labelled: s.labelled,
-            tells: true,
-        };
-    }
-    open_last(program, 1, label)
 }

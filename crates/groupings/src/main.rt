@@ -1,6 +1,7 @@
 // The program `groupings [--tell] [--job] [--hex] [FILE]`: an order, or a job's, is read, as bytes or as hexadecimal
 // text, a line a pull is written to standard output, and last which ending it has. It streams: an order of any
 // length, in the memory of one window and one buffer.
+use model::CHIP_SIZE;
 use model::Header;
 use text::Mode;
 use text::Place;
@@ -8,7 +9,6 @@ use text::Reading;
 ghost use mathlib.Core.Path.{_≡_};
 ghost use Prim.Native.Nat.{_+_, _*_, _≤_, _<_};
 ghost use lib.ListN.{length};
-ghost use Rattle.io.specs.Counts.{Counts};
 
 // A value of up to so many bytes is printed only when it is whole: it fits a window with its header.
 const LONGEST: usize = 16384;
@@ -27,9 +27,7 @@ const DASH: u8 = 0x2D;
 
 // `good` says that all went out so far. Where a write fails, nothing is written behind it.
 fn write(good: &mut bool, text: &[u8]) {
-    if *good {
-        *good = edge::print(b"groupings: standard output", text);
-    }
+    edge::print_on(good, b"groupings: standard output", text);
 }
 
 // How much of the buffer stays filled where so many more characters come: all, or none of it once it is written.
@@ -246,9 +244,6 @@ const CHUNK: usize = 512;
 // The kind of a text's fault that is half a byte; any other is a character that is no digit.
 const HALF: u8 = 2;
 
-// A job's chip record, which stands before its order.
-const CHIP_SIZE: usize = 40;
-
 // What is read, whether it is text, where the reader of text stands, and whether there is no more.
 struct Input {
     pub fd: i32,
@@ -291,37 +286,23 @@ fn fill_bytes(window: &mut [u8], kept: usize, input: Input, label: &[u8]) -> Fil
     filled_to(end, input, end < window.len(), got.failed)
 }
 
-// What stands at a fault is not told, since it could be a key's.
-fn say_fault(label: &[u8], kind: u8, line: u32, column: u32) {
-    let place = [line as u64, column as u64];
-    if kind == HALF {
-        edge::say_form(
-            label,
-            b": line #, column #: half a byte: the digit stands alone\n",
-            &place,
-        );
-        return;
+// The kind of a text's fault; 0 where there is none.
+fn fault_in(mode: Mode) -> u8 {
+    match mode {
+        Mode::Wrong(kind) => kind,
+        _ => 0,
     }
-    edge::say_form(
-        label,
-        b": line #, column #: not a hexadecimal digit\n",
-        &place,
-    );
 }
 
 // Whether the text is wrong, which is said.
 fn is_wrong(label: &[u8], r: Reading) -> bool {
     let mode = r.mode;
-    match mode {
-        Mode::Wrong(kind) => {
-            say_fault(label, kind, r.line, r.column);
-            true
-        }
-        Mode::Mark(_) => false,
-        Mode::Between => false,
-        Mode::Half(_) => false,
-        Mode::Comment => false,
+    let fault = fault_in(mode);
+    if fault == 0 {
+        return false;
     }
+    edge::say_fault(label, fault == HALF, r.line, r.column);
+    true
 }
 
 // A reading of which no bytes are laid yet.
@@ -452,16 +433,9 @@ fn front_of(kept: usize, input: Input, status: u8) -> Front
 
 // A chip record that is too short.
 fn say_short(label: &[u8], n: usize) {
-    if n == 1 {
-        edge::say(
-            label,
-            b": the chip record has 1 byte, and it must have 40\n",
-        );
-        return;
-    }
     edge::say_form(
         label,
-        b": the chip record has # bytes, and it must have 40\n",
+        b": the chip record has # byte~, and it must have 40\n",
         &[n as u64],
     );
 }
@@ -628,16 +602,17 @@ fn print_ending(out: &[u8], s: Stand) -> bool
     requires { ⌜ s .filled ≤ length (now out) ⌝ }
 {
     let filled = s.filled;
+    let breaks = 0 < s.owed;
     let mut good = true;
+    let mut line = [0u8; 32];
+    let n = forms::put_form(
+        &mut line,
+        0,
+        b"%{\x01\n|}%{\x00end|\x01torn|}\n",
+        &[breaks as u64, is_torn(s) as u64],
+    );
     write(&mut good, &out[..filled]);
-    if 0 < s.owed {
-        write(&mut good, b"\n");
-    }
-    if is_torn(s) {
-        write(&mut good, b"torn\n");
-    } else {
-        write(&mut good, b"end\n");
-    }
+    write(&mut good, &line[..n]);
     good
 }
 
@@ -690,85 +665,6 @@ fn groupings(input: Input, is_job: bool, label: &[u8]) -> u8 {
     edge::NOT_DONE
 }
 
-// Whether argument i is the option of these three letters. A longer one is no word here.
-fn asks(i: usize, first: u8, second: u8, third: u8) -> bool {
-    let mut word = [0u8; 5];
-    if os::arg(i, &mut word) != 5 {
-        return false;
-    }
-    let dashes = word[0] == b'-' && word[1] == b'-';
-    dashes && word[2] == first && word[3] == second && word[4] == third
-}
-
-// The argument behind this one, where this one is an option that was given.
-fn behind(i: usize, given: bool) -> usize
-    requires { ⌜ i ≤ 3 ⌝ }
-    ensures { λ r. ⌜ r ≤ i + 1 ⌝ }
-{
-    if given {
-        return i + 1;
-    }
-    i
-}
-
-// Whether a name ends in .txt.
-fn is_text_name(name: &[u8]) -> bool {
-    let n = name.len();
-    if n < 4 {
-        return false;
-    }
-    let first = name[n - 4] == b'.' && name[n - 3] == b't';
-    first && name[n - 2] == b'x' && name[n - 1] == b't'
-}
-
-// What the program was started on: the descriptor, or -1 where that was said already; how long its label is; whether
-// it is to tell its status; whether a job is read, and whether from text.
-struct Start {
-    pub fd: i32,
-    pub labelled: usize,
-    pub tells: bool,
-    pub is_job: bool,
-    pub is_text: bool,
-}
-
-// What argument i names, where nothing follows it.
-fn opened_last(label: &mut [u8], i: usize, tells: bool, is_job: bool, hex: bool) -> Start
-    requires { ⌜ i ≤ 4 ⌝ }
-    ensures { λ r. ⌜ Counts (r .labelled) (now (label .exit)) ⌝ }
-{
-    if i + 1 < os::arg_count() {
-        edge::say(b"groupings: ", b"one file, or none for standard input\n");
-        return Start {
-            fd: -1,
-            labelled: 0,
-            tells: tells,
-            is_job: is_job,
-            is_text: hex,
-        };
-    }
-    let s = edge::open_source(b"groupings: ", i, label);
-    let named = is_text_name(&label[..s.labelled]);
-    Start {
-        fd: s.fd,
-        labelled: s.labelled,
-        tells: tells,
-        is_job: is_job,
-        is_text: hex || named,
-    }
-}
-
-// What the arguments `[--tell] [--job] [--hex] [FILE]` ask.
-fn started(label: &mut [u8]) -> Start
-    ensures { λ r. ⌜ Counts (r .labelled) (now (label .exit)) ⌝ }
-{
-    let tells = edge::asks_tell();
-    let first = behind(1, tells);
-    let is_job = asks(first, b'j', b'o', b'b');
-    let second = behind(first, is_job);
-    let hex = asks(second, b'h', b'e', b'x');
-    opened_last(label, behind(second, hex), tells, is_job, hex)
-}
-
 // Nothing is read yet.
 fn unread(fd: i32, is_text: bool) -> Input {
     let place = place_of(text::start());
@@ -780,15 +676,20 @@ fn unread(fd: i32, is_text: bool) -> Input {
     }
 }
 
+// The arguments are `[--tell] [--job] [--hex] [FILE]`.
 fn main() {
     let mut label = edge::label_buffer();
-    let start = started(&mut label);
-    if start.fd < 0 {
-        edge::tell(start.tells, edge::NOT_DONE);
+    let tells = edge::is_arg(1, b"--tell");
+    let first = edge::behind(1, tells);
+    let is_job = edge::is_arg(first, b"--job");
+    let second = edge::behind(first, is_job);
+    let hex = edge::is_arg(second, b"--hex");
+    let source = edge::open_last(b"groupings: ", edge::behind(second, hex), &mut label);
+    if source.fd < 0 {
+        edge::tell(tells, edge::NOT_DONE);
         return;
     }
-    let n = start.labelled;
-    let input = unread(start.fd, start.is_text);
-    let status = groupings(input, start.is_job, &label[..n]);
-    edge::tell(start.tells, status);
+    let input = unread(source.fd, hex || source.is_text);
+    let status = groupings(input, is_job, &label[..source.labelled]);
+    edge::tell(tells, status);
 }

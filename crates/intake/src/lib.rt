@@ -1,4 +1,7 @@
 // A job from its file, as bytes or as hexadecimal text, in lent room; and what is said where it cannot be read or is
+use model::CAPACITY;
+use model::CHIP_SIZE;
+use model::ORDER_LIMIT;
 // refused.
 use reasons::Why;
 use stops::Cause;
@@ -10,56 +13,75 @@ ghost use Prim.Native.Nat.{_+_, _≤_};
 ghost use lib.ListN.{length};
 ghost use Rattle.io.specs.Counts.{Counts};
 
-// A chip record, the longest order, and the first byte of one that is too long.
-pub const JOB_ROOM: usize = 8233;
-
-const CHIP_SIZE: usize = 40;
-
-const CAPACITY: usize = 36;
-
-const ORDER_LIMIT: usize = 8192;
-
 const BLOCK_SIZE: usize = 1024;
 
-// How the reading ended: well, by a character that is no digit, by half a byte, or by a read that failed.
+// How the reading ended: well, by half a byte, by a read that failed, or else by a character that is no digit.
 pub const FINE: u8 = 0;
 
-pub const NO_DIGIT: u8 = 1;
+const HALF: u8 = 2;
 
-pub const HALF: u8 = 2;
+const UNREAD: u8 = 3;
 
-pub const UNREAD: u8 = 3;
+// The buffers, each by what its user asks of it. The first two: a chip record, the longest order, and the first byte of one that is too
+// long; and the lines of these. The third: 47 records; no complete order makes more.
+pub fn job_buffer() -> [u8; 8233]
+    ensures { λ r. ⌜ 8233 ≡ length r ⌝ }
+{
+    [0; 8233]
+}
 
-// How many bytes were read, how that ended, and the place of a text's fault.
+pub fn line_buffer() -> [u32; 8233]
+    ensures { λ r. ⌜ 8233 ≡ length r ⌝ }
+{
+    [0; 8233]
+}
+
+pub fn record_buffer() -> [u8; 12220]
+    ensures { λ r. ⌜ 12220 ≡ length r ⌝ }
+{
+    [0; 12220]
+}
+
+// How many bytes were read, of how many of them the line is known, how that ended, and the place of a text's fault.
 pub struct Job {
     pub count: usize,
+    pub known: usize,
     pub fault: u8,
     pub line: u32,
     pub column: u32,
 }
 
-fn job_of(count: usize, fault: u8, line: u32, column: u32) -> Job
-    ensures { λ r. ⌜ r .count ≡ count ⌝ }
+// A job as bytes, or one that could not be read.
+fn job_of(count: usize, fault: u8) -> Job
+    ensures { λ r. ⌜ (r .count ≡ count) × (r .known ≡ 0) ⌝ }
 {
     Job {
         count: count,
+        known: 0,
         fault: fault,
-        line: line,
-        column: column,
+        line: 0,
+        column: 0,
+    }
+}
+
+fn fault_in(mode: Mode) -> u8 {
+    match mode {
+        Mode::Wrong(fault) => fault,
+        _ => FINE,
     }
 }
 
 // A text that has ended.
 fn ended(count: usize, last: Reading) -> Job
-    ensures { λ r. ⌜ r .count ≡ count ⌝ }
+    ensures { λ r. ⌜ (r .count ≡ count) × (r .known ≡ count) ⌝ }
 {
     let mode = last.mode;
-    match mode {
-        Mode::Wrong(fault) => job_of(count, fault, last.line, last.column),
-        Mode::Mark(_) => job_of(count, FINE, 0, 0),
-        Mode::Between => job_of(count, FINE, 0, 0),
-        Mode::Half(_) => job_of(count, FINE, 0, 0),
-        Mode::Comment => job_of(count, FINE, 0, 0),
+    Job {
+        count: count,
+        known: count,
+        fault: fault_in(mode),
+        line: last.line,
+        column: last.column,
     }
 }
 
@@ -73,7 +95,7 @@ fn block_buffer() -> [u8; 1024]
 // Block after block. The loop counts its turns down from a number that no run uses up, since nothing says that an input ends.
 fn take_text(fd: i32, room: &mut [u8], lines: &mut [u32]) -> Job
     requires { ⌜ length (now lines) ≡ length (now room) ⌝ }
-    ensures { λ r. ⌜ r .count ≤ length (now (room .entry)) ⌝ }
+    ensures { λ r. ⌜ (r .count ≤ length (now (room .entry))) × (r .known ≤ r .count) ⌝ }
 {
     let mut block = block_buffer();
     let mut r = text::start();
@@ -81,7 +103,7 @@ fn take_text(fd: i32, room: &mut [u8], lines: &mut [u32]) -> Job
     while 0 < turns {
         let got = edge::read_full(fd, &mut block);
         if got.failed {
-            return job_of(0, UNREAD, 0, 0);
+            return job_of(0, UNREAD);
         }
         r = text::read(r, &block[..got.count], room, lines);
         if got.count < BLOCK_SIZE {
@@ -89,23 +111,23 @@ fn take_text(fd: i32, room: &mut [u8], lines: &mut [u32]) -> Job
         }
         turns -= 1;
     }
-    job_of(0, UNREAD, 0, 0)
+    job_of(0, UNREAD)
 }
 
 fn take_bytes(fd: i32, room: &mut [u8]) -> Job
-    ensures { λ r. ⌜ r .count ≤ length (now (room .entry)) ⌝ }
+    ensures { λ r. ⌜ (r .count ≤ length (now (room .entry))) × (r .known ≤ r .count) ⌝ }
 {
     let got = edge::read_full(fd, room);
     if got.failed {
-        return job_of(0, UNREAD, 0, 0);
+        return job_of(0, UNREAD);
     }
-    job_of(got.count, FINE, 0, 0)
+    job_of(got.count, FINE)
 }
 
 // A job into the front of the room, as far as that goes; of a text also each byte's line.
 pub fn take(fd: i32, is_text: bool, room: &mut [u8], lines: &mut [u32]) -> Job
     requires { ⌜ length (now lines) ≡ length (now room) ⌝ }
-    ensures { λ r. ⌜ r .count ≤ length (now (room .entry)) ⌝ }
+    ensures { λ r. ⌜ Counts (r .count) (now (room .exit)) × Counts (r .known) (now (lines .exit)) ⌝ }
 {
     if is_text {
         return take_text(fd, room, lines);
@@ -114,17 +136,14 @@ pub fn take(fd: i32, is_text: bool, room: &mut [u8], lines: &mut [u32]) -> Job
 }
 
 // Where the order begins behind the chip record.
-pub fn chip_end(count: usize) -> usize
-    ensures { λ r. ⌜ r ≤ count ⌝ }
+pub fn chip_end(job: &[u8]) -> usize
+    ensures { λ r. ⌜ Counts r (now (job .entry)) ⌝ }
 {
-    if count < CHIP_SIZE {
-        return count;
-    }
-    CHIP_SIZE
+    bytes::least(CHIP_SIZE, job.len())
 }
 
 // Why an order is not complete; of a job that is refused by another number there is nothing to tell.
-pub fn why_of(number: u8, chip: &[u8], order: &[u8]) -> Why {
+fn why_of(number: u8, chip: &[u8], order: &[u8]) -> Why {
     if number == 10 {
         if chip.len() == CHIP_SIZE {
             if order.len() <= ORDER_LIMIT {
@@ -146,7 +165,7 @@ fn line_of(lines: &[u32], place: usize) -> u32 {
     0
 }
 
-// The same of what an order stops at. `lines` are those of the job's bytes, none where it is no text.
+// The same of what an order stops at.
 fn stop_line(lines: &[u32], why: Why) -> u32 {
     match why {
         Why::Complete => 0,
@@ -161,118 +180,45 @@ fn message_buffer() -> [u8; 4864]
 }
 
 // A refusal, in one line on standard error: the label, the number, and what it means for this job.
-pub fn say_refused(label: &[u8], number: u8, chip: &[u8], why: Why, lines: &[u32]) {
-    let mut line = message_buffer();
-    let labelled = edge::put_text(&mut line, 0, label);
-    let numbered = wording::put_form(
-        &mut line,
-        labelled,
-        b": refused by number #: ",
-        number as u64,
-        0,
-    );
-    let worded = wording::put_refusal(
-        &mut line,
-        numbered,
-        number,
-        chip.len(),
-        why,
-        stop_line(lines, why),
-    );
-    let end = edge::put_text(&mut line, worded, b"\n");
-    edge::say(&line[..end], b"");
+fn say_why(label: &[u8], number: u8, chip_size: usize, why: Why, line: u32) {
+    let mut text = message_buffer();
+    let labelled = forms::put_text(&mut text, 0, label);
+    let worded = wording::put_refusal(&mut text, labelled, number, chip_size, why, line);
+    let end = forms::put_text(&mut text, worded, b"\n");
+    edge::say(&text[..end], b"");
 }
 
-// A job that could not be read, in one line on standard error: the system's reason, or where its text is wrong. What stands
-// there is not told, since it could be a key's.
+// A job that is refused, which is said. `lines` are those of its bytes, none where it is no text. Why its order is not complete.
+pub fn say_refused(label: &[u8], number: u8, job: &[u8], lines: &[u32]) -> Why {
+    let end = chip_end(job);
+    let why = why_of(number, &job[..end], &job[end..]);
+    say_why(label, number, end, why, stop_line(lines, why));
+    why
+}
+
+// A job that could not be read, in one line on standard error: the system's reason, or where its text is wrong.
 pub fn say_unread(label: &[u8], job: Job) {
     if job.fault == UNREAD {
         os::fail(label);
         return;
     }
-    let place = [job.line as u64, job.column as u64];
-    if job.fault == HALF {
-        edge::say_form(
-            label,
-            b": line #, column #: half a byte: the digit stands alone\n",
-            &place,
-        );
-        return;
-    }
-    edge::say_form(
-        label,
-        b": line #, column #: not a hexadecimal digit\n",
-        &place,
-    );
+    edge::say_fault(label, job.fault == HALF, job.line, job.column);
 }
 
-// Whether a name ends in .txt.
-pub fn is_text_name(name: &[u8]) -> bool {
-    let n = name.len();
-    if n < 4 {
-        return false;
-    }
-    let first = name[n - 4] == b'.' && name[n - 3] == b't';
-    first && name[n - 2] == b'x' && name[n - 1] == b't'
-}
-
-// What a program was started on: the descriptor, or -1 where that was said already; how long its label is; whether it is to tell
-// its status; and whether the job is text.
-pub struct Start {
-    pub fd: i32,
-    pub labelled: usize,
-    pub tells: bool,
-    pub is_text: bool,
-}
-
-fn is_hex(word: &[u8; 5]) -> bool {
-    let front = word[0] == b'-' && word[1] == b'-' && word[2] == b'h';
-    front && word[3] == b'e' && word[4] == b'x'
-}
-
-// Whether argument i is `--hex`.
-fn asks_hex(i: usize) -> bool {
-    let mut word = [0u8; 5];
-    if os::arg(i, &mut word) != 5 {
-        return false;
-    }
-    is_hex(&word)
-}
-
-// The argument behind this one, where this one is an option that was given.
-fn behind(i: usize, given: bool) -> usize
-    requires { ⌜ i ≤ 2 ⌝ }
-    ensures { λ r. ⌜ r ≤ i + 1 ⌝ }
+// A job from the file of this name, which is text where the name ends so. What is wrong is said.
+pub fn take_named(label: &[u8], name: &[u8], room: &mut [u8], lines: &mut [u32]) -> Job
+    requires { ⌜ length (now lines) ≡ length (now room) ⌝ }
+    ensures { λ r. ⌜ Counts (r .count) (now (room .exit)) × Counts (r .known) (now (lines .exit)) ⌝ }
 {
-    if given {
-        return i + 1;
+    let fd = os::open_read(name);
+    if fd < 0 {
+        os::fail(label);
+        return job_of(0, UNREAD);
     }
-    i
-}
-
-// What the arguments `[--tell] [--hex] [FILE]` ask of a program.
-pub fn started(program: &[u8], label: &mut [u8]) -> Start
-    ensures { λ r. ⌜ Counts (r .labelled) (now (label .exit)) ⌝ }
-{
-    let tells = edge::asks_tell();
-    let first = behind(1, tells);
-    let hex = asks_hex(first);
-    let i = behind(first, hex);
-    if i + 1 < os::arg_count() {
-        edge::say(program, b"one file, or none for standard input\n");
-        return Start {
-            fd: -1,
-            labelled: 0,
-            tells: tells,
-            is_text: hex,
-        };
+    let job = take(fd, edge::is_text_name(name), room, lines);
+    if job.fault != FINE {
+        say_unread(label, job);
     }
-    let s = edge::open_source(program, i, label);
-    let named = is_text_name(&label[..s.labelled]);
-    Start {
-        fd: s.fd,
-        labelled: s.labelled,
-        tells: tells,
-        is_text: hex || named,
-    }
+    libc::close(fd);
+    job
 }

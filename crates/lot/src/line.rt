@@ -1,12 +1,19 @@
-// A job's line: nine fields parted by tabs.
+// A job's line on standard output: nine fields parted by tabs.
 use job_register::Entry;
 use reasons::Why;
-use stops::Cause;
 use stops::Stop;
 ghost use mathlib.Core.Path.{_≡_};
-ghost use Prim.Native.Nat.{_+_, _≤_, _<_};
 ghost use lib.ListN.{length};
 ghost use Rattle.io.specs.Counts.{Counts};
+
+// How a job ended: loaded, refused by a number, not done; or the lot itself stops, since its lines cannot be written.
+pub const LOADED: u8 = 0;
+
+pub const REFUSED: u8 = 1;
+
+const UNDONE: u8 = 2;
+
+pub const STOPPED: u8 = 3;
 
 const FIRST_PRINTABLE: u8 = 0x20;
 
@@ -31,96 +38,104 @@ fn clean(text: &mut [u8]) {
 }
 
 // A name, as far as there is room.
-pub fn put_name(line: &mut [u8], name: &[u8]) -> usize
+fn put_name(line: &mut [u8], name: &[u8]) -> usize
     ensures { λ r. ⌜ Counts r (now (line .exit)) ⌝ }
 {
-    let n = edge::put_text(line, 0, name);
+    let n = forms::put_text(line, 0, name);
     clean(&mut line[..n]);
     n
 }
 
-// A serial number.
-fn put_serial(line: &mut [u8], at: usize, serial: [u8; 8]) -> usize
-    requires { ⌜ at ≤ length (now line) ⌝ }
-    ensures { λ r. ⌜ Counts r (now (line .exit)) ⌝ }
+// Room for the longest name that there is, and the fields behind it.
+fn line_buffer() -> [u8; 4480]
+    ensures { λ r. ⌜ 4480 ≡ length r ⌝ }
 {
-    let mut text = [0u8; 16];
-    hex::put_hex(&mut text, 0, &serial);
-    edge::put_text(line, at, &text)
+    [0; 4480]
 }
 
-// The fields behind the name of a job that was entered.
-pub fn put_entered(line: &mut [u8], at: usize, entry: Entry) -> usize
-    requires { ⌜ at ≤ length (now line) ⌝ }
-    ensures { λ r. ⌜ Counts r (now (line .exit)) ⌝ }
-{
-    let serial = entry.serial;
-    let life = wording::put_form(
-        line,
-        at,
-        b"\t0\t$\t$\t",
-        entry.gp as u64,
-        entry.internal as u64,
-    );
-    let events = wording::put_form(line, life, b"#\t", entry.events as u64, 0);
-    let end = put_serial(line, events, serial);
-    edge::put_text(line, end, b"\t-\t-\t-\n")
-}
-
-// Of a job whose register stood and was whole.
-pub fn put_kept(line: &mut [u8], at: usize, events: usize) -> usize
-    requires { ⌜ at ≤ length (now line) ⌝ }
-    ensures { λ r. ⌜ (at ≤ r) × (r ≤ length (now (line .entry))) ⌝ }
-{
-    wording::put_form(line, at, b"\t0\t07\tA5\t#\t-\t-\t-\t-\n", events as u64, 0)
-}
-
-// Whether what an order stops at has a tag.
-fn has_tag(cause: Cause) -> bool {
-    match cause {
-        Cause::HeaderTorn(left) => 2 <= left,
-        Cause::Rows(_) => false,
-        _ => true,
+// A name and the fields behind it. How the job ended, or that the lot stops here.
+fn told(name: &[u8], form: &[u8], values: &[u64], state: u8) -> u8 {
+    let mut line = line_buffer();
+    let named = put_name(&mut line, name);
+    let end = forms::put_form(&mut line, named, form, values);
+    if edge::print(b"lot: standard output", &line[..end]) {
+        return state;
     }
+    STOPPED
 }
 
-fn put_stop(line: &mut [u8], at: usize, stop: Stop) -> usize
-    requires { ⌜ at ≤ length (now line) ⌝ }
-    ensures { λ r. ⌜ (at ≤ r) × (r ≤ length (now (line .entry))) ⌝ }
-{
-    let place = wording::put_form(line, at, b"#\t", stop.place as u64, 0);
-    let cause = stop.cause;
-    if has_tag(cause) {
-        return wording::put_form(line, place, b"&\t&\n", stop.tag as u64, stop.word as u64);
-    }
-    wording::put_form(line, place, b"-\t&\n", stop.word as u64, 0)
-}
-
-// Of a job that was refused by a number.
-pub fn put_refused(line: &mut [u8], at: usize, number: u8, why: Why) -> usize
-    requires { ⌜ at ≤ length (now line) ⌝ }
-    ensures { λ r. ⌜ (at ≤ r) × (r ≤ length (now (line .entry))) ⌝ }
-{
-    let next = wording::put_form(line, at, b"\t#\t-\t-\t0\t-\t", number as u64, 0);
-    match why {
-        Why::Complete => wording::put_form(line, next, b"-\t-\t-\n", 0, 0),
-        Why::Stops(stop) => put_stop(line, next, stop),
-    }
-}
-
-// Of a job that was not done; a text's fault has a place.
-pub fn put_undone(line: &mut [u8], at: usize, row: u32, column: u32) -> usize
-    requires { ⌜ at ≤ length (now line) ⌝ }
-    ensures { λ r. ⌜ (at ≤ r) × (r ≤ length (now (line .entry))) ⌝ }
-{
-    if row == 0 {
-        return wording::put_form(line, at, b"\t-\t-\t-\t0\t-\t-\t-\t-\n", 0, 0);
-    }
-    wording::put_form(
-        line,
-        at,
-        b"\t-\t-\t-\t0\t-\t#:#\t-\t-\n",
-        row as u64,
-        column as u64,
+// A job that was entered.
+pub fn entered(name: &[u8], entry: Entry) -> u8 {
+    let s = entry.serial;
+    told(
+        name,
+        b"\t0\t$\t$\t#\t&&&&\t-\t-\t-\n",
+        &[
+            entry.gp as u64,
+            entry.internal as u64,
+            entry.events as u64,
+            bytes::word(s[0], s[1]) as u64,
+            bytes::word(s[2], s[3]) as u64,
+            bytes::word(s[4], s[5]) as u64,
+            bytes::word(s[6], s[7]) as u64,
+        ],
+        LOADED,
     )
+}
+
+// One whose register stood and was whole.
+pub fn kept(name: &[u8], events: usize) -> u8 {
+    told(
+        name,
+        b"\t0\t07\tA5\t#\t-\t-\t-\t-\n",
+        &[events as u64],
+        LOADED,
+    )
+}
+
+// One that was not done; a text's fault has a place.
+pub fn undone(name: &[u8], row: u32, column: u32) -> u8 {
+    let is_placed = row != 0;
+    told(
+        name,
+        b"\t-\t-\t-\t0\t-\t%{\x00-|\x01#:#|}\t-\t-\n",
+        &[is_placed as u64, row as u64, column as u64],
+        UNDONE,
+    )
+}
+
+// One that is refused by a number, and what its order stops at.
+fn refused_at(name: &[u8], number: u8, stop: Stop) -> u8 {
+    let cause = stop.cause;
+    if wording::has_tag(cause) {
+        return told(
+            name,
+            b"\t#\t-\t-\t0\t-\t#\t&\t&\n",
+            &[
+                number as u64,
+                stop.place as u64,
+                stop.tag as u64,
+                stop.word as u64,
+            ],
+            REFUSED,
+        );
+    }
+    told(
+        name,
+        b"\t#\t-\t-\t0\t-\t#\t-\t&\n",
+        &[number as u64, stop.place as u64, stop.word as u64],
+        REFUSED,
+    )
+}
+
+pub fn refused(name: &[u8], number: u8, why: Why) -> u8 {
+    match why {
+        Why::Complete => told(
+            name,
+            b"\t#\t-\t-\t0\t-\t-\t-\t-\n",
+            &[number as u64],
+            REFUSED,
+        ),
+        Why::Stops(stop) => refused_at(name, number, stop),
+    }
 }

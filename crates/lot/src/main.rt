@@ -1,4 +1,6 @@
 // The program `lot`: many jobs in one process. Names of job files on standard input, a register each in a folder, a line a job
+use model::END_SIZE;
+use model::LINE_SIZE;
 // on standard output, and a last line that counts them.
 mod line;
 mod names;
@@ -7,36 +9,25 @@ mod paths;
 
 use job_register::Entry;
 use libc::ENOENT;
-use line::put_entered;
-use line::put_kept;
-use line::put_name;
-use line::put_refused;
-use line::put_undone;
+use line::LOADED;
+use line::REFUSED;
+use line::STOPPED;
+use line::entered;
+use line::kept;
+use line::refused;
+use line::undone;
 use names::next_name;
 use options::Options;
 use options::read_options;
 use paths::put_path;
+use reasons::Why;
 ghost use mathlib.Core.Path.{_≡_};
-ghost use Prim.Native.Nat.{_≤_, _<_};
+ghost use Prim.Native.Nat.{_≤_};
 ghost use lib.ListN.{length};
-ghost use Rattle.io.specs.Counts.{Counts};
-
-const LINE_SIZE: usize = 26;
-
-const END_SIZE: usize = 10;
 
 const ZERO_BYTE: u8 = 0x00;
 
 const LINE_FEED: u8 = 0x0A;
-
-// How a job ended: loaded, refused by a number, not done; or the lot itself stops, since its lines cannot be written.
-const LOADED: u8 = 0;
-
-const REFUSED: u8 = 1;
-
-const UNDONE: u8 = 2;
-
-const STOPPED: u8 = 3;
 
 // The buffers, each by what its user asks of it.
 fn path_buffer() -> [u8; 4128]
@@ -51,31 +42,22 @@ fn register_buffer() -> [u8; 1232]
     [0; 1232]
 }
 
-// A line for standard output; how the job ended, or that the lot stops here.
-fn told(line: &[u8], state: u8) -> u8 {
-    if edge::print(b"lot: standard output", line) {
-        return state;
-    }
-    STOPPED
+fn area_buffer() -> [u8; 4096]
+    ensures { λ r. ⌜ 4096 ≡ length r ⌝ }
+{
+    [0; 4096]
 }
 
-// A line of each kind, in lent room.
-fn undone(line: &mut [u8], name: &[u8], row: u32, column: u32) -> u8 {
-    let named = put_name(line, name);
-    let end = put_undone(line, named, row, column);
-    told(&line[..end], UNDONE)
+fn window_buffer() -> [u8; 4352]
+    ensures { λ r. ⌜ 4352 ≡ length r ⌝ }
+{
+    [0; 4352]
 }
 
-fn kept(line: &mut [u8], name: &[u8], events: usize) -> u8 {
-    let named = put_name(line, name);
-    let end = put_kept(line, named, events);
-    told(&line[..end], LOADED)
-}
-
-fn entered(line: &mut [u8], name: &[u8], entry: Entry) -> u8 {
-    let named = put_name(line, name);
-    let end = put_entered(line, named, entry);
-    told(&line[..end], LOADED)
+fn folder_buffer() -> [u8; 1024]
+    ensures { λ r. ⌜ 1024 ≡ length r ⌝ }
+{
+    [0; 1024]
 }
 
 // The events of a register that stands and is whole, else 0.
@@ -135,156 +117,104 @@ fn written(part: &[u8], path: &[u8], register: &[u8]) -> bool {
     said
 }
 
-// A job of which a register was made. The line's room has the path of the part before it has the line.
-fn register_of(
-    line: &mut [u8],
-    name: &[u8],
-    folder: &[u8],
-    path: &[u8],
-    register: &[u8],
-    entry: Entry,
-) -> u8 {
-    let n = put_path(line, folder, b"/.", name, b".register.part");
-    if written(&line[..n], path, register) {
-        return entered(line, name, entry);
-    }
-    removed(path);
-    undone(line, name, 0, 0)
+// A register goes into its folder by way of a part.
+fn stored(name: &[u8], folder: &[u8], path: &[u8], register: &[u8]) -> bool {
+    let mut part = path_buffer();
+    let n = put_path(&mut part, folder, b"/.", name, b".register.part");
+    written(&part[..n], path, register)
 }
 
-// A job that is refused by a number: in words, as a line, and without a register.
-fn refused(
-    line: &mut [u8],
-    name: &[u8],
-    label: &[u8],
-    path: &[u8],
-    number: u8,
-    job: &[u8],
-    lines: &[u32],
-) -> u8 {
-    let end = intake::chip_end(job.len());
-    let chip = &job[..end];
-    let why = intake::why_of(number, chip, &job[end..]);
-    intake::say_refused(label, number, chip, why, lines);
+// How a job was entered, and of one that is refused why its order is not complete.
+struct Made {
+    pub entry: Entry,
+    pub why: Why,
+}
+
+// A job's register; or its refusal, which is said.
+fn enter(label: &[u8], job: &[u8], lines: &[u32], out: &mut [u8]) -> Made
+    ensures { λ r. ⌜ r .entry .events ≤ 47 ⌝ }
+{
+    let end = intake::chip_end(job);
+    let mut room = intake::record_buffer();
+    let mut area = area_buffer();
+    let entry = job_register::enter_job(&job[..end], &job[end..], &mut room, &mut area, out);
+    if entry.number == 0 {
+        return Made {
+            entry: entry,
+            why: Why::Complete,
+        };
+    }
+    Made {
+        entry: entry,
+        why: intake::say_refused(label, entry.number, job, lines),
+    }
+}
+
+// What is left of a job that has no register now: none, and its line.
+fn without(name: &[u8], path: &[u8], number: u8, why: Why) -> u8 {
     if removed(path) {
-        let named = put_name(line, name);
-        let n = put_refused(line, named, number, why);
-        return told(&line[..n], REFUSED);
+        return refused(name, number, why);
     }
-    undone(line, name, 0, 0)
+    undone(name, 0, 0)
 }
 
-// What a job was started on: its name, the label of its messages, the folder of the registers, and the path of its own.
-fn enter(
-    line: &mut [u8],
-    name: &[u8],
-    label: &[u8],
-    folder: &[u8],
-    path: &[u8],
-    job: &[u8],
-    lines: &[u32],
-    room: &mut [u8],
-    area: &mut [u8],
-) -> u8 {
-    let end = intake::chip_end(job.len());
-    let mut out = register_buffer();
-    let entry = job_register::enter_job(&job[..end], &job[end..], room, area, &mut out);
+// A job that was entered: its register is stored, and its line told.
+fn finish(name: &[u8], folder: &[u8], path: &[u8], out: &[u8], made: Made) -> u8
+    requires { ⌜ (length (now out) ≡ 1232) × (made .entry .events ≤ 47) ⌝ }
+{
+    let entry = made.entry;
     if entry.number != 0 {
-        return refused(line, name, label, path, entry.number, job, lines);
+        let why = made.why;
+        return without(name, path, entry.number, why);
     }
     let size = entry.events * LINE_SIZE + END_SIZE;
-    register_of(line, name, folder, path, &out[..size], entry)
+    if stored(name, folder, path, &out[..size]) {
+        return entered(name, entry);
+    }
+    removed(path);
+    undone(name, 0, 0)
 }
 
-// How many lines are known of n bytes.
-fn lines_of(n: usize, is_text: bool) -> usize
-    ensures { λ r. ⌜ r ≤ n ⌝ }
-{
-    if is_text {
-        return n;
-    }
-    0
+// A job that was read.
+fn read(name: &[u8], folder: &[u8], path: &[u8], label: &[u8], job: &[u8], lines: &[u32]) -> u8 {
+    let mut out = register_buffer();
+    let made = enter(label, job, lines, &mut out);
+    finish(name, folder, path, &out, made)
 }
 
 // A job from its file.
-fn taken(
-    line: &mut [u8],
-    name: &[u8],
-    label: &[u8],
-    folder: &[u8],
-    path: &[u8],
-    job: &mut [u8],
-    lines: &mut [u32],
-    room: &mut [u8],
-    area: &mut [u8],
-) -> u8
-    requires { ⌜ length (now lines) ≡ length (now job) ⌝ }
-{
-    let fd = os::open_read(name);
-    if fd < 0 {
-        os::fail(label);
-        removed(path);
-        return undone(line, name, 0, 0);
-    }
-    let is_text = intake::is_text_name(name);
-    let taken = intake::take(fd, is_text, job, lines);
+fn taken(name: &[u8], folder: &[u8], path: &[u8]) -> u8 {
+    let mut label = edge::label_buffer();
+    let program = forms::put_text(&mut label, 0, b"lot: ");
+    let labelled = forms::put_text(&mut label, program, name);
+    let mut job = intake::job_buffer();
+    let mut lines = intake::line_buffer();
+    let taken = intake::take_named(&label[..labelled], name, &mut job, &mut lines);
     if taken.fault != intake::FINE {
-        intake::say_unread(label, taken);
+        removed(path);
+        return undone(name, taken.line, taken.column);
     }
-    libc::close(fd);
-    if taken.fault == intake::FINE {
-        let known = lines_of(taken.count, is_text);
-        return enter(
-            line,
-            name,
-            label,
-            folder,
-            path,
-            &job[..taken.count],
-            &lines[..known],
-            room,
-            area,
-        );
-    }
-    removed(path);
-    undone(line, name, taken.line, taken.column)
+    read(
+        name,
+        folder,
+        path,
+        &label[..labelled],
+        &job[..taken.count],
+        &lines[..taken.known],
+    )
 }
 
 // One job, by its name.
-fn one(
-    name: &[u8],
-    folder: &[u8],
-    resume: bool,
-    job: &mut [u8],
-    lines: &mut [u32],
-    room: &mut [u8],
-    area: &mut [u8],
-) -> u8
-    requires { ⌜ length (now lines) ≡ length (now job) ⌝ }
-{
-    let mut label = edge::label_buffer();
-    let program = edge::put_text(&mut label, 0, b"lot: ");
-    let labelled = edge::put_text(&mut label, program, name);
+fn one(name: &[u8], folder: &[u8], resume: bool) -> u8 {
     let mut path = path_buffer();
-    let mut line = path_buffer();
     let n = put_path(&mut path, folder, b"/", name, b".register");
     if resume {
         let events = events_at(&path[..n]);
         if 0 < events {
-            return kept(&mut line, name, events);
+            return kept(name, events);
         }
     }
-    taken(
-        &mut line,
-        name,
-        &label[..labelled],
-        folder,
-        &path[..n],
-        job,
-        lines,
-        room,
-        area,
-    )
+    taken(name, folder, &path[..n])
 }
 
 // The jobs so far, by how they ended.
@@ -326,8 +256,12 @@ fn sum(a: u64, b: u64) -> u64 {
 fn print_end(t: Tally) {
     let mut line = [0u8; 128];
     let jobs = sum(sum(t.loaded, t.refused), t.undone);
-    let first = wording::put_form(&mut line, 0, b"END\t#\t#", jobs, t.loaded);
-    let end = wording::put_form(&mut line, first, b"\t#\t#\n", t.refused, t.undone);
+    let end = forms::put_form(
+        &mut line,
+        0,
+        b"END\t#\t#\t#\t#\n",
+        &[jobs, t.loaded, t.refused, t.undone],
+    );
     edge::print(b"lot: standard output", &line[..end]);
 }
 
@@ -339,17 +273,8 @@ struct Lot {
 }
 
 // One name more: passed over where it is empty or another part's.
-fn turn(
-    lot: Lot,
-    o: Options,
-    name: &[u8],
-    folder: &[u8],
-    job: &mut [u8],
-    lines: &mut [u32],
-    room: &mut [u8],
-    area: &mut [u8],
-) -> Lot
-    requires { ⌜ (length (now lines) ≡ length (now job)) × (1 ≤ o .parts) ⌝ }
+fn turn(lot: Lot, o: Options, name: &[u8], folder: &[u8]) -> Lot
+    requires { ⌜ 1 ≤ o .parts ⌝ }
 {
     let mut next = lot;
     if name.len() == 0 {
@@ -359,7 +284,7 @@ fn turn(
     if lot.index % o.parts != o.part {
         return next;
     }
-    let state = one(name, folder, o.resume, job, lines, room, area);
+    let state = one(name, folder, o.resume);
     if state == STOPPED {
         next.stopped = true;
         return next;
@@ -367,36 +292,6 @@ fn turn(
     let tally = lot.tally;
     next.tally = counted(tally, state);
     next
-}
-
-fn window_buffer() -> [u8; 4352]
-    ensures { λ r. ⌜ 4352 ≡ length r ⌝ }
-{
-    [0; 4352]
-}
-
-fn job_buffer() -> [u8; 8233]
-    ensures { λ r. ⌜ 8233 ≡ length r ⌝ }
-{
-    [0; 8233]
-}
-
-fn line_buffer() -> [u32; 8233]
-    ensures { λ r. ⌜ 8233 ≡ length r ⌝ }
-{
-    [0; 8233]
-}
-
-fn record_buffer() -> [u8; 12220]
-    ensures { λ r. ⌜ 12220 ≡ length r ⌝ }
-{
-    [0; 12220]
-}
-
-fn area_buffer() -> [u8; 4096]
-    ensures { λ r. ⌜ 4096 ≡ length r ⌝ }
-{
-    [0; 4096]
 }
 
 fn separator_of(o: Options) -> u8 {
@@ -424,10 +319,6 @@ fn run(o: Options, folder: &[u8])
     requires { ⌜ 1 ≤ o .parts ⌝ }
 {
     let mut window = window_buffer();
-    let mut job = job_buffer();
-    let mut lines = line_buffer();
-    let mut room = record_buffer();
-    let mut area = area_buffer();
     let separator = separator_of(o);
     let mut lot = new_lot();
     let mut at: usize = 0;
@@ -439,22 +330,12 @@ fn run(o: Options, folder: &[u8])
             return;
         }
         if name.state == names::ENDED {
-            let tally = lot.tally;
-            print_end(tally);
+            print_end(lot.tally);
             return;
         }
         let start = name.start;
         let end = name.end;
-        lot = turn(
-            lot,
-            o,
-            &window[start..end],
-            folder,
-            &mut job,
-            &mut lines,
-            &mut room,
-            &mut area,
-        );
+        lot = turn(lot, o, &window[start..end], folder);
         if lot.stopped {
             return;
         }
@@ -462,12 +343,6 @@ fn run(o: Options, folder: &[u8])
         filled = name.filled;
         turns -= 1;
     }
-}
-
-fn folder_buffer() -> [u8; 1024]
-    ensures { λ r. ⌜ 1024 ≡ length r ⌝ }
-{
-    [0; 1024]
 }
 
 fn say_usage() {

@@ -20,20 +20,6 @@ pub struct Options {
     pub folder: usize,
 }
 
-fn same(a: &[u8], b: &[u8]) -> bool {
-    if a.len() != b.len() {
-        return false;
-    }
-    let mut i: usize = 0;
-    while i < a.len() {
-        if a[i] != b[i] {
-            return false;
-        }
-        i += 1;
-    }
-    true
-}
-
 // A number and the place behind its digits.
 struct Number {
     pub value: u64,
@@ -93,24 +79,6 @@ fn word_buffer() -> [u8; 16]
     [0; 16]
 }
 
-// Whether argument i is this word. A longer one is no word here.
-fn is_arg(i: usize, text: &[u8]) -> bool {
-    let mut word = word_buffer();
-    let n = os::arg(i, &mut word);
-    same(&word[..n], text)
-}
-
-// The argument behind so many, where an option was given.
-fn behind(i: usize, many: usize, given: bool) -> usize
-    requires { ⌜ (i ≤ 8) × (many ≤ 2) ⌝ }
-    ensures { λ r. ⌜ r ≤ i + many ⌝ }
-{
-    if given {
-        return i + many;
-    }
-    i
-}
-
 fn with_part(o: Options, i: usize) -> Options {
     let mut word = word_buffer();
     let n = os::arg(i, &mut word);
@@ -119,20 +87,21 @@ fn with_part(o: Options, i: usize) -> Options {
 
 // The options, in this order, and the folder behind them.
 pub fn read_options() -> Options {
-    let zero = is_arg(1, b"-0");
-    let second = behind(1, 1, zero);
-    let resume = is_arg(second, b"--resume");
-    let third = behind(second, 1, resume);
-    let parted = is_arg(third, b"--part");
+    let zero = edge::is_arg(1, b"-0");
+    let second = edge::behind(1, zero);
+    let resume = edge::is_arg(second, b"--resume");
+    let third = edge::behind(second, resume);
+    let parted = edge::is_arg(third, b"--part");
+    let fourth = edge::behind(third, parted);
     let o = Options {
         zero: zero,
         resume: resume,
         part: 0,
         parts: 1,
-        folder: behind(third, 2, parted),
+        folder: edge::behind(fourth, parted),
     };
     if parted {
-        return with_part(o, third + 1);
+        return with_part(o, fourth);
     }
     o
 }

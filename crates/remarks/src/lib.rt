@@ -1,19 +1,14 @@
 // What the programs that play a session say of it on standard error, as its records go by: a chip record or an event
 // that is refused, and a last record that is not whole. Each line begins with a label, as `replay: FILE`.
+use model::CHIP_SIZE;
+use model::DATA_PLACE;
+use model::LINE_SIZE;
+use model::RECORD_SIZE;
 ghost use mathlib.Core.Path.{_≡_};
 ghost use Prim.Native.Nat.{_+_, _*_, _/_, _≤_};
 ghost use lib.ListN.{length};
 
-const CHIP_SIZE: usize = 40;
-
-const RECORD_SIZE: usize = 260;
-
 const LENGTH_PLACE: usize = 3;
-
-const DATA_PLACE: usize = 4;
-
-// An event's line, and the last digit of the number in it.
-const LINE_SIZE: usize = 26;
 
 const NUMBER_PLACE: usize = 10;
 

@@ -1,5 +1,4 @@
 // The card in words but its files: its life, its facts, the rows taken, the secrets' lengths.
-use crate::form::at_most;
 use crate::form::write;
 use crate::form::write_form;
 use crate::form::write_hex;
@@ -14,8 +13,6 @@ const NAME_LIMIT: usize = 16;
 
 const ROW_COUNT: u8 = 11;
 
-const RECORD_ROW: u8 = 11;
-
 // '3800' is row 6; the secrets are those of rows 6 to 10.
 const FIRST_SECRET_ROW: u8 = 6;
 
@@ -25,6 +22,7 @@ const FILE_TABLE_TAG: u16 = 0x3100;
 
 const DOT: u8 = 0x2E;
 
+// Numbers of events up to here have five digits, and longer ones more.
 const FIVE_DIGITS: u64 = 100_000;
 
 // A printable character as it is, any other byte as a dot.
@@ -50,134 +48,124 @@ fn characters(name: [u8; 16]) -> [u8; 16] {
 
 // The name as text, and in hexadecimal.
 fn write_name(good: &mut bool, name: [u8; 16], n: usize) {
-    let k = at_most(n, NAME_LIMIT);
-    write(good, b"Card\n  name            ");
+    let k = bytes::least(n, NAME_LIMIT);
     if k == 0 {
-        write(good, b"none");
+        write(good, b"Card\n  name            none");
         return;
     }
     let text = characters(name);
+    write(good, b"Card\n  name            ");
     write(good, &text[..k]);
     write_hex(good, b" '", &name[..k], b"'");
 }
 
-fn write_states(good: &mut bool, life: Life, internal: u8) {
+// The states, and how many events there were.
+fn write_states(good: &mut bool, life: Life, internal: u8, events: u64) {
+    let many = FIVE_DIGITS <= events;
     write_form(
         good,
-        b"\n  life cycle      '$'{\x00 absent|\x03 installed|\x07 selectable|\x83 locked from installed|\x87 locked from selectable|}%{\x00, not selected|\x01, selected|}\n  internal state  '$'{\xCC NOT_PERSONALIZED, before loading|\x5A PERSONALIZING|\xA5 PERSONALIZED|}",
-        life.gp as u64,
-        life.selected as u64,
-        internal as u64,
+        b"\n  life cycle      '$'{\x00 absent|\x03 installed|\x07 selectable|\x83 locked from installed|\
+        \x87 locked from selectable|}%{\x00, not selected|\x01, selected|}\
+        \n  internal state  '$'{\xCC NOT_PERSONALIZED, before loading|\x5A PERSONALIZING|\xA5 PERSONALIZED|}\
+        \n  events          %{\x00@|\x01#|}",
+        &[
+            life.gp as u64,
+            life.selected as u64,
+            internal as u64,
+            many as u64,
+            events,
+        ],
     );
 }
 
-// The number of events: five digits, or more where it has more.
-fn write_events(good: &mut bool, count: u64) {
-    write(good, b"\n  events          ");
-    if count < FIVE_DIGITS {
-        let mut text = [0u8; 5];
-        digits::put_five(&mut text, 0, count);
-        write(good, &text);
-        return;
-    }
-    write_form(good, b"#", count, 0, 0);
-}
-
-// The first byte of the startup information is at least 6 once loaded.
-fn write_startup(good: &mut bool, startup: [u8; 7]) {
+// Serial number and startup information, whose first byte is at least 6 once loaded.
+fn write_kept(good: &mut bool, l: Loading) {
+    let startup = l.startup;
+    let most = startup[0];
+    let is_loaded = most != 0;
+    write_hex(good, b"\n  serial number   '", &l.serial, b"'");
     write_hex(good, b"\n  startup         '", &startup, b"'");
-    if startup[0] == 0 {
-        write(good, b", not loaded");
-        return;
-    }
     write_form(
         good,
-        b", # modification~ in a session at most",
-        startup[0] as u64,
-        0,
-        0,
+        b"%{\x00, not loaded|\x01, # modification~ in a session at most|}",
+        &[is_loaded as u64, most as u64],
     );
 }
 
-fn write_missing(good: &mut bool, tag: u16, missing: usize) {
-    write_form(
-        good,
-        b"'&', # byte~ still missing",
-        tag as u64,
-        missing as u64,
-        0,
-    );
+// An open value: its tag, and how many bytes are missing.
+struct Gap {
+    pub is_open: bool,
+    pub tag: u16,
+    pub missing: usize,
 }
 
-fn write_pending(good: &mut bool, pending: Open) {
+fn gap_in(pending: Open) -> Gap {
     match pending {
-        Open::Shut => write(good, b"none"),
-        Open::Table { held: _, missing } => write_missing(good, FILE_TABLE_TAG, missing),
+        Open::Shut => Gap {
+            is_open: false,
+            tag: 0,
+            missing: 0,
+        },
+        Open::Table { held: _, missing } => Gap {
+            is_open: true,
+            tag: FILE_TABLE_TAG,
+            missing: missing,
+        },
         Open::Record {
             tag,
             written: _,
             missing,
-        } => write_missing(good, tag, missing),
+        } => Gap {
+            is_open: true,
+            tag: tag,
+            missing: missing,
+        },
     }
 }
 
-// Serial number, startup, counter, open value.
-fn write_kept(good: &mut bool, l: Loading) {
-    let serial = l.serial;
-    let startup = l.startup;
-    let running = l.running;
-    let pending = running.pending;
-    write_hex(good, b"\n  serial number   '", &serial, b"'");
-    write_startup(good, startup);
+// The counter, the open value, and how many rows are taken.
+fn write_progress(good: &mut bool, counter: u32, rows: u16, pending: Open) {
+    let gap = gap_in(pending);
     write_form(
         good,
-        b"\n  counter         #\n  open value      ",
-        l.counter as u64,
-        0,
-        0,
+        b"\n  counter         #\n  open value      %{\x00none|\x01'&', # byte~ still missing|}",
+        &[
+            counter as u64,
+            gap.is_open as u64,
+            gap.tag as u64,
+            gap.missing as u64,
+        ],
     );
-    write_pending(good, pending);
+    write_form(good, b"\n\nRows taken: #", &[sets::count(rows) as u64]);
 }
 
-// What rows 1 to 10 are.
-fn write_row_name(good: &mut bool, r: u8) {
-    write_form(
-        good,
-        b"%{\x01\n  '9484' challenge|\x02\n  '2000' serial number|\x03\n  '2100' startup information|\x04\n  '2200' transaction counter|\x05\n  '3100' file table|\x06\n  '3800' activation parameters|\x07\n  '4101' Issuer key|\x08\n  '4102' Load key|\x09\n  '4103' Debit key|\x0A\n  '4104' PIN|}",
-        r as u64,
-        0,
-        0,
-    );
-}
-
+// What row r is, with the last tag of a record; of row 0 nothing.
 fn write_row(good: &mut bool, r: u8, last: u16) {
-    if r < RECORD_ROW {
-        write_row_name(good, r);
-        return;
-    }
     write_form(
         good,
-        b"\n  'ssnn' file contents, last '&'",
-        last as u64,
-        0,
-        0,
+        b"%{\x01\n  '9484' challenge|\x02\n  '2000' serial number|\x03\n  '2100' startup information|\
+        \x04\n  '2200' transaction counter|\x05\n  '3100' file table|\x06\n  '3800' activation parameters|\
+        \x07\n  '4101' Issuer key|\x08\n  '4102' Load key|\x09\n  '4103' Debit key|\x0A\n  '4104' PIN|\
+        \x0B\n  'ssnn' file contents, last '&'|}",
+        &[r as u64, last as u64],
     );
 }
 
-// A row's line, where it is taken.
-fn write_taken(good: &mut bool, r: u8, rows: u16, last: u16)
+// A row where it is taken, else 0.
+fn if_taken(rows: u16, r: u8) -> u8
     requires { ⌜ (1 ≤ r) × (r ≤ 11) ⌝ }
 {
     if sets::is_taken(rows, r as usize) {
-        write_row(good, r, last);
+        return r;
     }
+    0
 }
 
 fn write_rows(good: &mut bool, rows: u16, last: u16) {
     let mut r: u8 = 0;
     while r < ROW_COUNT {
         r += 1;
-        write_taken(good, r, rows, last);
+        write_row(good, if_taken(rows, r), last);
     }
 }
 
@@ -185,12 +173,13 @@ fn write_rows(good: &mut bool, rows: u16, last: u16) {
 fn write_length(good: &mut bool, i: u8, n: usize)
     requires { ⌜ i < 5 ⌝ }
 {
-    write_row_name(good, FIRST_SECRET_ROW + i);
-    if n == 0 {
-        write(good, b": none");
-        return;
-    }
-    write_form(good, b": # byte~", n as u64, 0, 0);
+    let is_there = n != 0;
+    write_row(good, FIRST_SECRET_ROW + i, 0);
+    write_form(
+        good,
+        b": %{\x00none|\x01# byte~|}",
+        &[is_there as u64, n as u64],
+    );
 }
 
 fn write_lengths(good: &mut bool, secrets: [Secret; 5]) {
@@ -202,23 +191,23 @@ fn write_lengths(good: &mut bool, secrets: [Secret; 5]) {
     }
 }
 
-// The rows taken with their count, and the secrets' lengths.
+// What is loaded but the files.
 fn write_loaded(good: &mut bool, l: Loading) {
+    let running = l.running;
+    let pending = running.pending;
     let secrets = l.secrets;
-    let taken = sets::count(l.running.rows);
-    write_form(good, b"\n\nRows taken: #", taken as u64, 0, 0);
-    write_rows(good, l.running.rows, l.running.last);
+    write_kept(good, l);
+    write_progress(good, l.counter, running.rows, pending);
+    write_rows(good, running.rows, running.last);
     write(good, b"\n\nSecrets, their lengths only");
     write_lengths(good, secrets);
 }
 
-pub fn write_facts(good: &mut bool, c: Card, count: u64) {
+pub fn write_facts(good: &mut bool, c: Card, events: u64) {
     let life = c.life;
     let name = life.name;
     let l = c.loading;
     write_name(good, name, life.namelen);
-    write_states(good, life, l.running.internal);
-    write_events(good, count);
-    write_kept(good, l);
+    write_states(good, life, l.running.internal, events);
     write_loaded(good, l);
 }

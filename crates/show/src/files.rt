@@ -1,23 +1,19 @@
 // The file table in words, and what the files hold.
 use crate::form::HEX_LINE;
-use crate::form::at_most;
 use crate::form::write;
 use crate::form::write_form;
 use crate::form::write_hex;
+use model::BINARY;
 use model::Card;
 use model::Descriptor;
 use model::Loading;
+use model::SIMULATED;
 use model::Spot;
+use model::TABLE_LIMIT;
 ghost use Prim.Native.Nat.{_≤_};
-
-const TABLE_LIMIT: usize = 31;
 
 // The FileType and EFTypes that the text turns on, and the access condition that has a key.
 const DF: u8 = 0x02;
-
-const BINARY: u8 = 0x01;
-
-const SIMULATED: u8 = 0x08;
 
 const SESSION: u8 = 0x10;
 
@@ -31,10 +27,9 @@ fn write_access(good: &mut bool, i: usize, ac: u8, key: u8) {
     }
     write_form(
         good,
-        b"%{\x00\n    access conditions: |\x01; |\x02; |\x03; |}%{\x00NEVER|\x01PIN|\x10SESSION with key |\x1FALWAYS|}%{\x011 (Issuer key)|\x022 (Load key)|\x033 (Debit/Validation key)|}",
-        i as u64,
-        ac as u64,
-        session_key as u64,
+        b"%{\x00\n    access conditions: |\x01; |\x02; |\x03; |}%{\x00NEVER|\x01PIN|\x10SESSION with key |\x1FALWAYS|}\
+        %{\x011 (Issuer key)|\x022 (Load key)|\x033 (Debit/Validation key)|}",
+        &[i as u64, ac as u64, session_key as u64],
     );
 }
 
@@ -49,52 +44,44 @@ fn write_accesses(good: &mut bool, ac: [u8; 4], nkey: [u8; 4]) {
 // The type, with a binary file's size, or the number and size of the records.
 fn write_sizes(good: &mut bool, d: Descriptor) {
     if d.eftype == BINARY {
-        write_form(
-            good,
-            b", binary file, # byte~",
-            sizes::size_of(d) as u64,
-            0,
-            0,
-        );
+        let size = sizes::size_of(d);
+        write_form(good, b", binary file, # byte~", &[size as u64]);
         return;
     }
     write_form(
         good,
-        b"%{\x02, linear file, |\x04, cyclic file, |\x08, simulated counter file, |\x09, counters file, |}# record~ of # byte~",
-        d.eftype as u64,
-        d.numrec as u64,
-        d.recsize as u64,
+        b"%{\x02, linear file, |\x04, cyclic file, |\x08, simulated counter file, |\x09, counters file, |}\
+        # record~ of # byte~",
+        &[d.eftype as u64, d.numrec as u64, d.recsize as u64],
     );
 }
 
-fn write_sfi(good: &mut bool, sfi: u8) {
-    if sfi == 0 {
-        write(good, b", EF, no SFI");
-        return;
+// The text of `write_kind` that a descriptor has.
+fn kind_of(d: Descriptor) -> u64 {
+    if d.filetype == DF {
+        return (d.status % 2) as u64;
     }
-    write_form(good, b", EF, SFI '$'", sfi as u64, 0, 0);
+    if d.sfi == 0 {
+        return 2;
+    }
+    3
 }
 
-// What a descriptor says but its LID and access conditions.
+// What a descriptor says but its access conditions.
 fn write_kind(good: &mut bool, d: Descriptor) {
-    if d.filetype == DF {
-        write_form(
-            good,
-            b"%{\x00, DF, validated|\x01, DF, invalidated|}",
-            d.status as u64,
-            0,
-            0,
-        );
-        return;
+    write_form(
+        good,
+        b"\n  LID '&'%{\x00, DF, validated|\x01, DF, invalidated|\x02, EF, no SFI|\x03, EF, SFI '$'|}",
+        &[d.lid as u64, kind_of(d), d.sfi as u64],
+    );
+    if d.filetype != DF {
+        write_sizes(good, d);
     }
-    write_sfi(good, d.sfi);
-    write_sizes(good, d);
 }
 
 fn write_descriptor(good: &mut bool, d: Descriptor) {
     let ac = d.ac;
     let nkey = d.nkey;
-    write_form(good, b"\n  LID '&'", d.lid as u64, 0, 0);
     write_kind(good, d);
     write_accesses(good, ac, nkey);
     write(good, b"\n");
@@ -105,16 +92,14 @@ fn write_data_ref(good: &mut bool, sfi: u8, number: u8) {
     write_form(
         good,
         b"    stores nothing: it is counter # of the counters file with SFI '$'\n",
-        number as u64,
-        sfi as u64,
-        0,
+        &[number as u64, sfi as u64],
     );
 }
 
 // Where a record begins in the file area.
 fn place_of(l: Loading, sfi: u8, nn: u8) -> usize {
     let files = l.files;
-    let spot = places::spot_of(files, at_most(l.count, TABLE_LIMIT), sfi, nn);
+    let spot = places::spot_of(files, bytes::least(l.count, TABLE_LIMIT), sfi, nn);
     match spot {
         Spot::At { base, size: _ } => base,
         Spot::Nowhere => 0,
@@ -135,15 +120,14 @@ fn write_record(good: &mut bool, c: Card, area: &[u8], sfi: u8, nn: u8) {
     let mut number: u8 = 0;
     let bytes = showing::shown(c, area, sfi, nn, &mut number);
     if number != 0 {
-        write_form(good, b"    record # cannot be shown\n", nn as u64, 0, 0);
+        write_form(good, b"    record # cannot be shown\n", &[nn as u64]);
         return;
     }
+    let place = place_of(c.loading, sfi, nn);
     write_form(
         good,
         b"    record #: offset #, # byte~\n",
-        nn as u64,
-        place_of(c.loading, sfi, nn) as u64,
-        bytes.len() as u64,
+        &[nn as u64, place as u64, bytes.len() as u64],
     );
     write_dump(good, bytes);
 }
@@ -196,17 +180,12 @@ fn write_files(good: &mut bool, c: Card, area: &[u8], count: usize)
 }
 
 pub fn write_table(good: &mut bool, c: Card, area: &[u8]) {
-    let n = at_most(c.loading.count, TABLE_LIMIT);
-    if n == 0 {
-        write(good, b"\n\nFile table: none\n");
-        return;
-    }
+    let n = bytes::least(c.loading.count, TABLE_LIMIT);
+    let is_there = n != 0;
     write_form(
         good,
-        b"\n\nFile table: # descriptor~; offsets are those in the file area\n",
-        n as u64,
-        0,
-        0,
+        b"\n\nFile table: %{\x00none|\x01# descriptor~; offsets are those in the file area|}\n",
+        &[is_there as u64, n as u64],
     );
     write_files(good, c, area, n);
 }

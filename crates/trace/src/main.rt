@@ -1,133 +1,50 @@
 // The program `trace [--tell] [FILE]`: what `replay` reads, and of each event the whole state on a line. The tests
 // compare it character by character with the second program's.
 use model::Card;
+use model::DESCRIPTOR_SIZE;
 use model::Descriptor;
 use model::Life;
 use model::Loading;
 use model::Open;
 use model::Played;
+use model::RECORD_SIZE;
 use model::Secret;
+use model::TABLE_LIMIT;
 use remarks::Noted;
 ghost use mathlib.Core.Path.{_≡_};
-ghost use Prim.Native.Nat.{_+_, _*_, _≤_, _<_};
+ghost use Prim.Native.Nat.{_≤_};
 ghost use lib.ListN.{length};
+ghost use Rattle.forms.specs.Room.{Behind};
 ghost use Rattle.lists.specs.Bytes.{zeros};
 ghost use Rattle.model.specs.Stored.{areaSize};
 ghost use Rattle.soundness.specs.Keeps.{Good};
 
-// 24 records. No event's line is longer than 2,600 characters.
+// 24 records. No event's line is longer than 2,600 characters, and the buffer for lines has room for as many.
 const BLOCK_SIZE: usize = 6240;
-
-const RECORD_SIZE: usize = 260;
-
-const TABLE_LIMIT: usize = 31;
-
-const DESCRIPTOR_SIZE: usize = 18;
 
 const SECRETS: usize = 5;
 
-const BLANK: u8 = 0x20;
+const TABLE_TAG: u16 = 0x3100;
 
-const NONE: u8 = 0x2D;
-
-const DECIMAL: u8 = 0x23;
-
-const BYTE: u8 = 0x24;
-
-const WORD: u8 = 0x26;
-
-fn at_most(n: usize, most: usize) -> usize
-    ensures { λ r. ⌜ r ≤ most ⌝ }
-{
-    if n <= most {
-        return n;
-    }
-    most
-}
-
-// Every `put` function writes from `at` on and gives the place behind; its bound is what the room is counted from.
+// Every `put` function writes from `at` on and gives the place behind.
 
 // The first n of some bytes behind a blank. Of none it is a dash.
 fn put_front(out: &mut [u8], at: usize, bytes: &[u8], n: usize) -> usize
-    requires { ⌜ at + 2 + 2 * length (now bytes) ≤ length (now out) ⌝ }
-    ensures { λ r. ⌜ r ≤ at + 2 + 2 * length (now (bytes .entry)) ⌝ }
+    requires { ⌜ at ≤ length (now out) ⌝ }
+    ensures { λ r. ⌜ Behind at r (now (out .exit)) ⌝ }
 {
-    out[at] = BLANK;
     if n == 0 {
-        out[at + 1] = NONE;
-        return at + 2;
+        return forms::put_text(out, at, b" -");
     }
-    let k = at_most(n, bytes.len());
-    hex::put_hex(out, at + 1, &bytes[..k])
-}
-
-// Fields that are numbers go by a form: `#` is the next value in decimal, `$` its last byte and `&` its last two bytes
-// in hexadecimal. Any other character is itself.
-
-// How many values a character takes.
-fn taken_by(mark: u8) -> usize
-    ensures { λ r. ⌜ r ≤ 1 ⌝ }
-{
-    if mark == DECIMAL || mark == BYTE || mark == WORD {
-        return 1;
-    }
-    0
-}
-
-fn put_mark(out: &mut [u8], at: usize, mark: u8, value: u64) -> usize
-    requires { ⌜ at + 20 ≤ length (now out) ⌝ }
-    ensures { λ r. ⌜ r ≤ at + 20 ⌝ }
-{
-    if mark == DECIMAL {
-        return digits::put_number(out, at, value);
-    }
-    if mark == BYTE {
-        hex::put_hex2(out, at, (value % 256) as u8);
-        return at + 2;
-    }
-    if mark == WORD {
-        hex::put_hex4(out, at, (value % 65536) as u16);
-        return at + 4;
-    }
-    out[at] = mark;
-    at + 1
-}
-
-// A value behind a blank.
-fn put_value(out: &mut [u8], at: usize, mark: u8, value: u64) -> usize
-    requires { ⌜ at + 21 ≤ length (now out) ⌝ }
-    ensures { λ r. ⌜ r ≤ at + 21 ⌝ }
-{
-    out[at] = BLANK;
-    put_mark(out, at + 1, mark, value)
-}
-
-fn value_at(values: &[u64], i: usize) -> u64 {
-    if i < values.len() {
-        return values[i];
-    }
-    0
-}
-
-fn put_form(out: &mut [u8], at: usize, form: &[u8], values: &[u64]) -> usize
-    requires { ⌜ at + 20 * length (now form) ≤ length (now out) ⌝ }
-    ensures { λ r. ⌜ r ≤ at + 20 * length (now (form .entry)) ⌝ }
-{
-    let mut to = at;
-    let mut next: usize = 0;
-    let mut i: usize = 0;
-    while i < form.len() {
-        to = put_mark(out, to, form[i], value_at(values, next));
-        next += taken_by(form[i]);
-        i += 1;
-    }
-    to
+    let k = bytes::least(n, bytes.len());
+    let to = forms::put_text(out, at, b" ");
+    forms::put_hex(out, to, &bytes[..k])
 }
 
 // The secrets of '3800' and '4101' to '4104'.
 fn put_secrets(out: &mut [u8], at: usize, secrets: [Secret; 5]) -> usize
-    requires { ⌜ at + 650 ≤ length (now out) ⌝ }
-    ensures { λ r. ⌜ r ≤ at + 650 ⌝ }
+    requires { ⌜ at ≤ length (now out) ⌝ }
+    ensures { λ r. ⌜ (at ≤ r) × (r ≤ length (now (out .exit))) ⌝ }
 {
     let mut to = at;
     let mut i: usize = 0;
@@ -141,13 +58,13 @@ fn put_secrets(out: &mut [u8], at: usize, secrets: [Secret; 5]) -> usize
 
 // Serial number, startup, counter, secrets.
 fn put_facts(out: &mut [u8], at: usize, l: Loading) -> usize
-    requires { ⌜ at + 724 ≤ length (now out) ⌝ }
-    ensures { λ r. ⌜ r ≤ at + 724 ⌝ }
+    requires { ⌜ at ≤ length (now out) ⌝ }
+    ensures { λ r. ⌜ (at ≤ r) × (r ≤ length (now (out .exit))) ⌝ }
 {
     let secrets = l.secrets;
     let first = put_front(out, at, &l.serial, 8);
     let second = put_front(out, first, &l.startup, 7);
-    let third = put_value(out, second, DECIMAL, l.counter as u64);
+    let third = forms::put_form(out, second, b" #", &[l.counter as u64]);
     put_secrets(out, third, secrets)
 }
 
@@ -197,126 +114,120 @@ fn stored_table(files: [Descriptor; 31], count: usize) -> [u8; 558]
 
 // The number of descriptors, and they.
 fn put_table(out: &mut [u8], at: usize, files: [Descriptor; 31], count: usize) -> usize
-    requires { ⌜ at + 1158 ≤ length (now out) ⌝ }
-    ensures { λ r. ⌜ r ≤ at + 1158 ⌝ }
+    requires { ⌜ at ≤ length (now out) ⌝ }
+    ensures { λ r. ⌜ Behind at r (now (out .exit)) ⌝ }
 {
-    let n = at_most(count, TABLE_LIMIT);
+    let n = bytes::least(count, TABLE_LIMIT);
     let table = stored_table(files, n);
-    let to = put_value(out, at, DECIMAL, count as u64);
+    let to = forms::put_form(out, at, b" #", &[count as u64]);
     put_front(out, to, &table, DESCRIPTOR_SIZE * n)
 }
 
-// TAG:COUNT:MISSING.
-fn put_span(out: &mut [u8], at: usize, tag: u16, count: usize, missing: usize) -> usize
-    requires { ⌜ at + 120 ≤ length (now out) ⌝ }
-    ensures { λ r. ⌜ r ≤ at + 120 ⌝ }
-{
-    let values = [tag as u64, count as u64, missing as u64];
-    put_form(out, at, b" &:#:#", &values)
+// An open value: its tag, how many bytes are there and how many are missing; and how many of '3100' are held.
+struct Span {
+    pub is_open: bool,
+    pub tag: u16,
+    pub count: usize,
+    pub missing: usize,
+    pub held: usize,
 }
 
-fn put_open(out: &mut [u8], at: usize, pending: Open) -> usize
-    requires { ⌜ at + 120 ≤ length (now out) ⌝ }
-    ensures { λ r. ⌜ r ≤ at + 120 ⌝ }
-{
+fn span_of(pending: Open) -> Span {
     match pending {
-        Open::Shut => put_front(out, at, b"", 0),
-        Open::Table { held, missing } => put_span(out, at, 0x3100, held, missing),
+        Open::Shut => Span {
+            is_open: false,
+            tag: 0,
+            count: 0,
+            missing: 0,
+            held: 0,
+        },
+        Open::Table { held, missing } => Span {
+            is_open: true,
+            tag: TABLE_TAG,
+            count: held,
+            missing: missing,
+            held: held,
+        },
         Open::Record {
             tag,
             written,
             missing,
-        } => put_span(out, at, tag, written, missing),
+        } => Span {
+            is_open: true,
+            tag: tag,
+            count: written,
+            missing: missing,
+            held: 0,
+        },
     }
 }
 
-// How many bytes of '3100' are held.
-fn held_in(pending: Open) -> usize {
-    match pending {
-        Open::Table { held, missing: _ } => held,
-        _ => 0,
-    }
-}
-
-// A byte of the area times its place, counted from 1.
-fn weight(i: usize, b: u8) -> usize
-    requires { ⌜ i < 4096 ⌝ }
-    ensures { λ r. ⌜ r ≤ 1044480 ⌝ }
+// The open value as TAG:COUNT:MISSING, and the bytes held of '3100'.
+fn put_open(out: &mut [u8], at: usize, pending: Open, held: [u8; 18]) -> usize
+    requires { ⌜ at ≤ length (now out) ⌝ }
+    ensures { λ r. ⌜ Behind at r (now (out .exit)) ⌝ }
 {
-    (i + 1) * bytes::wide(b)
-}
-
-// The place sum. It stays under 2^32.
-fn place_sum(area: &[u8]) -> usize
-    requires { ⌜ length (now area) ≡ 4096 ⌝ }
-{
-    let mut sum: usize = 0;
-    let mut i: usize = 0;
-    while i < area.len() {
-        sum += weight(i, area[i]);
-        i += 1;
-    }
-    sum
-}
-
-// Refusal number, word, GP, internal, selected, name: the line's start.
-fn put_states(out: &mut [u8], at: usize, number: u8, word: u16, life: Life, internal: u8) -> usize
-    requires { ⌜ at + 214 ≤ length (now out) ⌝ }
-    ensures { λ r. ⌜ r ≤ at + 214 ⌝ }
-{
-    let states = [
-        number as u64,
-        word as u64,
-        life.gp as u64,
-        internal as u64,
-        life.selected as u64,
-    ];
-    let to = put_form(out, at, b"# & $ $ #", &states);
-    put_front(out, to, &life.name, life.namelen)
-}
-
-// What the event said: refusal number, word, the card's life, rows, answer.
-fn put_event(out: &mut [u8], at: usize, p: Played, answer: &[u8]) -> usize
-    requires { ⌜ (at + 384 ≤ length (now out)) × (length (now answer) ≡ 64) ⌝ }
-    ensures { λ r. ⌜ r ≤ at + 384 ⌝ }
-{
-    let load = p.card.loading;
-    let first = put_states(
+    let s = span_of(pending);
+    let to = forms::put_form(
         out,
         at,
-        p.number,
-        p.word,
-        p.card.life,
-        load.running.internal,
+        b" %{\x00-|\x01&:#:#|}",
+        &[
+            s.is_open as u64,
+            s.tag as u64,
+            s.count as u64,
+            s.missing as u64,
+        ],
     );
-    let second = put_value(out, first, WORD, load.running.rows as u64);
+    put_front(out, to, &held, s.held)
+}
+
+// GP, internal, selected, name, rows.
+fn put_life(out: &mut [u8], at: usize, life: Life, internal: u8, rows: u16) -> usize
+    requires { ⌜ at ≤ length (now out) ⌝ }
+    ensures { λ r. ⌜ Behind at r (now (out .exit)) ⌝ }
+{
+    let states = [life.gp as u64, internal as u64, life.selected as u64];
+    let first = forms::put_form(out, at, b" $ $ #", &states);
+    let second = put_front(out, first, &life.name, life.namelen);
+    forms::put_form(out, second, b" &", &[rows as u64])
+}
+
+// What the event said, the line's start: refusal number, word, the card's life, rows, answer.
+fn put_event(out: &mut [u8], at: usize, p: Played, answer: &[u8]) -> usize
+    requires { ⌜ at ≤ length (now out) ⌝ }
+    ensures { λ r. ⌜ Behind at r (now (out .exit)) ⌝ }
+{
+    let life = p.card.life;
+    let running = p.card.loading.running;
+    let first = forms::put_form(out, at, b"# &", &[p.number as u64, p.word as u64]);
+    let second = put_life(out, first, life, running.internal, running.rows);
     put_front(out, second, answer, p.answered)
 }
 
 // What is loaded: facts, secrets, descriptors, the open value, the bytes held of '3100'.
 fn put_loading(out: &mut [u8], at: usize, l: Loading) -> usize
-    requires { ⌜ at + 2100 ≤ length (now out) ⌝ }
-    ensures { λ r. ⌜ r ≤ at + 2100 ⌝ }
+    requires { ⌜ at ≤ length (now out) ⌝ }
+    ensures { λ r. ⌜ Behind at r (now (out .exit)) ⌝ }
 {
     let files = l.files;
     let running = l.running;
     let pending = running.pending;
+    let held = l.held;
     let first = put_facts(out, at, l);
     let second = put_table(out, first, files, l.count);
-    let third = put_open(out, second, pending);
-    put_front(out, third, &l.held, held_in(pending))
+    put_open(out, second, pending, held)
 }
 
 // An event's line. The place sum ends it.
 fn put_line(out: &mut [u8], at: usize, p: Played, answer: &[u8], area: &[u8]) -> usize
-    requires { ⌜ (at + 2600 ≤ length (now out)) × (length (now answer) ≡ 64) × (length (now area) ≡ 4096) ⌝ }
-    ensures { λ r. ⌜ r ≤ at + 2600 ⌝ }
+    requires { ⌜ (at ≤ length (now out)) × (length (now area) ≡ 4096) ⌝ }
+    ensures { λ r. ⌜ Behind at r (now (out .exit)) ⌝ }
 {
-    let sum = place_sum(area) as u64;
-    let words = [sum / 65536, sum];
+    let sum = playing::place_sum(area) as u64;
     let first = put_event(out, at, p, answer);
     let second = put_loading(out, first, p.card.loading);
-    put_form(out, second, b" &&\n", &words)
+    forms::put_form(out, second, b" &&\n", &[sum / 65536, sum])
 }
 
 // The card after a record, the place behind its line, and whether it was refused.
@@ -328,8 +239,8 @@ struct Traced {
 
 // One record is played, and its line stands from `at` on.
 fn trace_one(c: Card, area: &mut [u8], r: &[u8], out: &mut [u8], at: usize) -> Traced
-    requires { ⌜ Good areaSize c (now area) × (length (now r) ≡ 260) × (at + 2600 ≤ length (now out)) ⌝ }
-    ensures { λ x. ⌜ Good areaSize (x .card) (now (area .exit)) × (x .end ≤ at + 2600) ⌝ }
+    requires { ⌜ Good areaSize c (now area) × (length (now r) ≡ 260) × (at ≤ length (now out)) ⌝ }
+    ensures { λ x. ⌜ Good areaSize (x .card) (now (area .exit)) × Behind at (x .end) (now (out .exit)) ⌝ }
 {
     let mut answer = [0u8; 64];
     let p = turns::turn(c, area, &mut answer, r);
@@ -341,97 +252,52 @@ fn trace_one(c: Card, area: &mut [u8], r: &[u8], out: &mut [u8], at: usize) -> T
     }
 }
 
-// The card after a block, what was noted of the session so far, and whether the block's lines went out.
-struct Block {
+// The card after some records, what was noted of the session so far, and the place behind their lines.
+struct Lines {
     pub card: Card,
     pub noted: Noted,
-    pub printed: bool,
+    pub end: usize,
 }
 
-// Plays the whole records of a block, and writes their lines. A torn last record is not an event.
-fn trace_all(mut c: Card, area: &mut [u8], records: &[u8], label: &[u8], mut noted: Noted) -> Block
+// Plays the whole records of a block, a line each. A torn last record is not an event.
+fn trace_all(
+    mut c: Card,
+    area: &mut [u8],
+    records: &[u8],
+    label: &[u8],
+    mut noted: Noted,
+    out: &mut [u8],
+) -> Lines
     requires { ⌜ Good areaSize c (now area) × (length (now records) ≤ 6240) ⌝ }
-    ensures { λ r. ⌜ Good areaSize (r .card) (now (area .exit)) ⌝ }
+    ensures { λ r. ⌜ Good areaSize (r .card) (now (area .exit)) × Behind 0 (r .end) (now (out .exit)) ⌝ }
 {
-    let mut lines = line_buffer();
     let mut end: usize = 0;
     let mut i: usize = 0;
     let k = records.len() / RECORD_SIZE;
     while i < k {
         let from = i * RECORD_SIZE;
         let r = &records[from..from + RECORD_SIZE];
-        let t = trace_one(c, area, r, &mut lines, end);
+        let t = trace_one(c, area, r, out, end);
         c = t.card;
         end = t.end;
         noted = remarks::note(label, r, t.refused, noted);
         i += 1;
     }
-    let printed = edge::print(b"trace: standard output", &lines[..end]);
-    Block {
+    Lines {
         card: c,
         noted: noted,
-        printed: printed,
+        end: end,
     }
 }
 
-// How a session ended: whether anything was refused, and whether a read or a write failed, which was said.
-struct Outcome {
-    pub refused: bool,
+// How far a session is traced: the card, what was noted; how many bytes are behind the last whole record; whether to go on, and
+// whether a read or a write failed, which was said.
+struct Stand {
+    pub card: Card,
+    pub noted: Noted,
+    pub left: usize,
+    pub going: bool,
     pub failed: bool,
-}
-
-fn failed() -> Outcome {
-    Outcome {
-        refused: false,
-        failed: true,
-    }
-}
-
-// Block after block to the end of the input. The loop counts its turns down from a number that no run uses up, since
-// nothing says that an input ends.
-fn trace_blocks(mut c: Card, area: &mut [u8], fd: i32, label: &[u8]) -> Outcome
-    requires { ⌜ Good areaSize c (now area) ⌝ }
-{
-    let mut block = block_buffer();
-    let mut noted = Noted {
-        events: 0,
-        refused: 0,
-    };
-    let mut turns = u64::MAX;
-    while 0 < turns {
-        let got = edge::read_labelled(label, fd, &mut block);
-        if got.failed {
-            return failed();
-        }
-        let n = got.count;
-        let b = trace_all(c, area, &block[..n], label, noted);
-        c = b.card;
-        noted = b.noted;
-        if !b.printed {
-            return failed();
-        }
-        if n < BLOCK_SIZE {
-            return Outcome {
-                refused: remarks::note_end(label, noted, n % RECORD_SIZE),
-                failed: false,
-            };
-        }
-        turns -= 1;
-    }
-    failed()
-}
-
-// The buffers, each by what its user asks of it.
-fn clear_area() -> [u8; 4096]
-    ensures { λ r. ⌜ (r ≡ zeros areaSize) × (4096 ≡ length r) ⌝ }
-{
-    [0; 4096]
-}
-
-fn block_buffer() -> [u8; 6240]
-    ensures { λ r. ⌜ 6240 ≡ length r ⌝ }
-{
-    [0; 6240]
 }
 
 fn line_buffer() -> [u8; 62400]
@@ -440,75 +306,141 @@ fn line_buffer() -> [u8; 62400]
     [0; 62400]
 }
 
-fn digit_buffer() -> [u8; 8192]
-    ensures { λ r. ⌜ 8192 ≡ length r ⌝ }
+// Records that were read.
+fn trace_records(s: Stand, area: &mut [u8], records: &[u8], label: &[u8]) -> Stand
+    requires { ⌜ Good areaSize (s .card) (now area) × (length (now records) ≤ 6240) ⌝ }
+    ensures { λ r. ⌜ Good areaSize (r .card) (now (area .exit)) ⌝ }
 {
-    [0; 8192]
-}
-
-// The last line: AREA and its bytes. Whether it went out.
-fn show_area(area: &[u8]) -> bool
-    requires { ⌜ length (now area) ≡ 4096 ⌝ }
-{
-    let mut digits = digit_buffer();
-    hex::put_hex(&mut digits, 0, area);
-    if edge::print(b"trace: standard output", b"AREA ") {
-        if edge::print(b"trace: standard output", &digits) {
-            return edge::print(b"trace: standard output", b"\n");
-        }
-    }
-    false
-}
-
-// The events of the card that the chip record gives, and the area after them; whether that went out.
-fn trace_card(c: Card, fd: i32, label: &[u8]) -> Outcome
-    requires { ⌜ Good areaSize c (zeros areaSize) ⌝ }
-{
-    let mut area = clear_area();
-    let outcome = trace_blocks(c, &mut area, fd, label);
-    if outcome.failed {
-        return failed();
-    }
-    Outcome {
-        refused: outcome.refused,
-        failed: !show_area(&area),
+    let before = s.card;
+    let noted = s.noted;
+    let mut out = line_buffer();
+    let lines = trace_all(before, area, records, label, noted, &mut out);
+    let printed = edge::print(b"trace: standard output", &out[..lines.end]);
+    let card = lines.card;
+    let so_far = lines.noted;
+    Stand {
+        card: card,
+        noted: so_far,
+        left: records.len() % RECORD_SIZE,
+        going: records.len() == BLOCK_SIZE && printed,
+        failed: !printed,
     }
 }
 
-fn trace_session(chip: &[u8], fd: i32, label: &[u8]) -> Outcome {
-    let made = fresh::fresh(chip);
-    if made.number != 0 {
-        remarks::note_chip(label, chip);
-        return Outcome {
-            refused: true,
-            failed: !edge::print(b"trace: standard output", b"REFUSED 07\n"),
+fn block_buffer() -> [u8; 6240]
+    ensures { λ r. ⌜ 6240 ≡ length r ⌝ }
+{
+    [0; 6240]
+}
+
+// The next block.
+fn trace_block(s: Stand, area: &mut [u8], fd: i32, label: &[u8]) -> Stand
+    requires { ⌜ Good areaSize (s .card) (now area) ⌝ }
+    ensures { λ r. ⌜ Good areaSize (r .card) (now (area .exit)) ⌝ }
+{
+    let mut block = block_buffer();
+    let got = edge::read_labelled(label, fd, &mut block);
+    if got.failed {
+        let card = s.card;
+        let noted = s.noted;
+        return Stand {
+            card: card,
+            noted: noted,
+            left: 0,
+            going: false,
+            failed: true,
         };
     }
-    trace_card(made.card, fd, label)
+    trace_records(s, area, &block[..got.count], label)
+}
+
+// The session's end.
+fn status_after(label: &[u8], s: Stand) -> u8 {
+    if s.going || s.failed {
+        return edge::NOT_DONE;
+    }
+    let noted = s.noted;
+    edge::status_of(remarks::note_end(label, noted, s.left))
+}
+
+// Block after block to the end of the input. The loop counts its turns down from a number that no run uses up, since
+// nothing says that an input ends.
+fn trace_blocks(c: Card, area: &mut [u8], fd: i32, label: &[u8]) -> u8
+    requires { ⌜ Good areaSize c (now area) ⌝ }
+{
+    let noted = Noted {
+        events: 0,
+        refused: 0,
+    };
+    let mut s = Stand {
+        card: c,
+        noted: noted,
+        left: 0,
+        going: true,
+        failed: false,
+    };
+    let mut turns = u64::MAX;
+    while 0 < turns {
+        s = trace_block(s, area, fd, label);
+        if !s.going {
+            return status_after(label, s);
+        }
+        turns -= 1;
+    }
+    edge::NOT_DONE
+}
+
+fn area_buffer() -> [u8; 8220]
+    ensures { λ r. ⌜ 8220 ≡ length r ⌝ }
+{
+    [0; 8220]
+}
+
+// The last line: AREA and its bytes. The status then.
+fn print_area(area: &[u8], status: u8) -> u8 {
+    let mut line = area_buffer();
+    let named = forms::put_text(&mut line, 0, b"AREA ");
+    let shown = forms::put_hex(&mut line, named, area);
+    let end = forms::put_text(&mut line, shown, b"\n");
+    if edge::print(b"trace: standard output", &line[..end]) {
+        return status;
+    }
+    edge::NOT_DONE
+}
+
+// The events of the card that the chip record gives, and the area after them.
+fn trace_card(c: Card, fd: i32, label: &[u8]) -> u8
+    requires { ⌜ Good areaSize c (zeros areaSize) ⌝ }
+{
+    let mut area = playing::clear_area();
+    let status = trace_blocks(c, &mut area, fd, label);
+    if status == edge::NOT_DONE {
+        return status;
+    }
+    print_area(&area, status)
 }
 
 fn trace(fd: i32, label: &[u8]) -> u8 {
-    let mut chip = [0u8; 40];
-    let got = edge::read_labelled(label, fd, &mut chip);
-    if got.failed {
-        return edge::NOT_DONE;
+    let begun = playing::begin(label, fd);
+    if begun.status == edge::DONE {
+        return trace_card(begun.card, fd, label);
     }
-    let n = got.count;
-    let outcome = trace_session(&chip[..n], fd, label);
-    if outcome.failed {
-        return edge::NOT_DONE;
+    if begun.status == edge::REFUSED {
+        if edge::print(b"trace: standard output", b"REFUSED 07\n") {
+            return edge::REFUSED;
+        }
     }
-    edge::status_of(outcome.refused)
+    edge::NOT_DONE
 }
 
 fn main() {
     let mut label = edge::label_buffer();
-    let source = edge::started(b"trace: ", &mut label);
+    let tells = edge::is_arg(1, b"--tell");
+    let source = edge::open_last(b"trace: ", edge::behind(1, tells), &mut label);
     if source.fd < 0 {
-        edge::tell(source.tells, edge::NOT_DONE);
+        edge::tell(tells, edge::NOT_DONE);
         return;
     }
-    let n = source.labelled;
-    let status = trace(source.fd, &label[..n]);
-    edge::tell(source.tells, status);
+    let status = trace(source.fd, &label[..source.labelled]);
+    edge::tell(tells, status);
 }

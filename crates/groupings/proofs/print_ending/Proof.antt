@@ -10,5 +10,6 @@ slice-aggregate-write c = simp length-take (omega arith)
 pub print-ending-spec : {M : Type 1} → statement M
 print-ending-spec =
     tie.close
-    (tie.spec slice-aggregate-write (search needs) (search needs) (search needs) (search needs)
-    (search needs) (search needs) (search needs) (search needs) (search needs) (search needs))
+    (tie.spec (search needs) (search needs) (search needs) (search needs) (search needs) (search needs)
+    (search needs) slice-aggregate-write (search needs) (search needs) (search needs) (search needs)
+    (search needs))

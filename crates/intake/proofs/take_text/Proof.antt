@@ -20,8 +20,10 @@ loop-holds c = (refl, refl, sym (c .before .block-buffer .ensures), rw (c .start
 returns-2 : tie.Need-returns-2 Inv-loop μ-loop
 returns-2 c =
     let l = c .before .before .before .before .before .before .before .before .before .before .before .before .before .before .before .before .before .loop in
-    let w : c .before .before .before .before .before .before .before .before .read .result .count ≤ length (l .room) = rw (c .before .before .before .before .before .before .before .before .read .ensures .0) (within-room (length (l .room)) (l .r) _) in
-    omega (arith, c .ended .ensures, l .inv .0, w)
+    let read = c .before .before .before .before .before .before .before .before .read in
+    let w : read .result .count ≤ length (l .room) = rw (read .ensures .0) (within-room (length (l .room)) (l .r) _) in
+    let e = c .ended .ensures in
+    (omega (arith, e .0, l .inv .0, w), omega (arith, e .0, e .1))
 
 loop-again : tie.Need-loop-again Inv-loop μ-loop
 loop-again c =

@@ -1,4 +1,4 @@
-use Prim.Native.Nat.{_+_, _*_, _-_, _≤_}
+use Prim.Native.Nat.{_-_, _≤_}
 use mathlib.Core.Path.{_≡_}
 use lib.ListN.{length}
 use borrow.Author.Needs.{needs}
@@ -6,7 +6,7 @@ use Rattle.trace.proofs.put_secrets.Statement.{statement}
 use Rattle.trace.proofs.put_secrets.Tie as tie
 
 abbrev Inv-loop : tie.InvT-loop
-Inv-loop out₀ at secrets to₀ i₀ out to i = (i ≤ 5) × (length out ≡ length out₀) × (to ≤ at + 130 * i)
+Inv-loop out₀ at secrets to₀ i₀ out to i = (at ≤ to) × (to ≤ length out) × (length out ≡ length out₀)
 
 abbrev μ-loop : tie.MeasureT-loop
 μ-loop out₀ at secrets to₀ i₀ out to i = 5 - i

@@ -1,28 +1,32 @@
-use Prim.Native.Nat.{_*_, _-_, _≤_}
-use mathlib.Core.Path.{_≡_}
+use Prim.Native.Nat.{_-_, _≤_}
+use mathlib.Core.Path.{_≡_, _∙_}
 use native.Mathlib.Omega.{arith}
-use lib.ListN.{length, length-take}
-use borrow.Author.Needs.{needs}
-use Rattle.soundness.specs.Keeps.{Good}
+use lib.ListN.{length}
+use Rattle.forms.specs.Room.{Behind}
 use Rattle.model.specs.Stored.{areaSize}
+use Rattle.soundness.specs.Keeps.{Good}
+use borrow.Author.Needs.{needs}
 use Rattle.trace.proofs.trace_all.Statement.{statement}
 use Rattle.trace.proofs.trace_all.Tie as tie
 
 abbrev Inv-loop : tie.InvT-loop
-Inv-loop c₀ area₀ records label noted₀ lines₀ end₀ i₀ k t14 c area noted lines end i =
-    Good areaSize c area × (length area ≡ length area₀) × (length lines ≡ 62400) × (i ≤ k) × (end ≤ i * 2600)
+Inv-loop c₀ area₀ records label noted₀ out₀ end₀ i₀ k c area noted out end i =
+    Good areaSize c area × (length area ≡ length area₀) × Behind 0 end out × (length out ≡ length out₀) × (i ≤ k)
 
 abbrev μ-loop : tie.MeasureT-loop
-μ-loop c₀ area₀ records label noted₀ lines₀ end₀ i₀ k t14 c area noted lines end i = k - i
+μ-loop c₀ area₀ records label noted₀ out₀ end₀ i₀ k c area noted out end i = k - i
 
-slice-aggregate-print-2 : tie.Need-slice-aggregate-print-2 Inv-loop μ-loop
-slice-aggregate-print-2 c = simp length-take (omega arith)
+loop-again : tie.Need-loop-again Inv-loop μ-loop
+loop-again c =
+    let t = c .before .before .before .before .before .before .trace-one in
+    let l = c .before .before .before .before .before .before .before .before .before .before .before .loop in
+    let e = t .ensures .1 in
+    (t .ensures .0, t .kept .1 .0 ∙ l .inv .1, (omega arith, e .1, e .2), t .kept .1 .1 .1 .0 ∙ l .inv .3, omega (arith, c .before .before .before .before .before .before .before .before .before .before .loop-test .taken))
 
 pub trace-all-spec : {M : Type 1} → statement M
 trace-all-spec =
     tie.close
-    (tie.spec Inv-loop μ-loop (λ c κs. search needs) (λ c. search needs) (λ c. search needs)
-    (λ c. search needs) (λ c. search needs) (λ c. search needs) (λ c. search needs) (λ c. search needs)
-    (λ c κs. search needs) (λ c κs. search needs) (λ c. search needs) (λ c. search needs)
-    (λ c. search needs) (λ c. search needs) (λ c. search needs) slice-aggregate-print-2
-    (λ c κs. search needs) (λ c. search needs) (λ c. search needs))
+    (tie.spec Inv-loop μ-loop (λ c. search needs) (λ c. search needs) (λ c. search needs)
+    (λ c. search needs) (λ c. search needs) (λ c. search needs) (λ c κs. search needs)
+    (λ c κs. search needs) (λ c. search needs) (λ c. search needs) loop-again (λ c. search needs)
+    (λ c. search needs) (λ c. search needs))

@@ -1,15 +1,14 @@
+use Rattle.soundness.proofs.Sessions.{turn-keeps}
 use denote.Ref.{now}
 use borrow.Author.Needs.{needs}
-use Rattle.soundness.proofs.Sessions.{turn-keeps}
 use Rattle.trace.proofs.trace_one.Statement.{statement}
 use Rattle.trace.proofs.trace_one.Tie as tie
 
 returns : tie.Need-returns
 returns c =
     let put-line = c .before .before .before .put-line in
-    let turn = c .before .before .before .before .before .before .before .before .before .before .before .turn in
+    let p = c .before .before .before .before .before .before .before .before .before .before .before .turn .ensures in
     let s = c .before .before .before .before .before .before .before .before .before .before .before .before .before .before .before .before .before in
-    let p = turn .ensures in
     (rw (p .leaves, p .keeps) (turn-keeps (s .args .c) (now (s .args .area)) (now (s .args .r)) (s .pre .0)), put-line .ensures)
 
 pub trace-one-spec : {M : Type 1} → statement M

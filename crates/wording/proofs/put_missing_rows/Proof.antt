@@ -2,11 +2,12 @@ use Prim.Native.Nat.{_-_, _≤_}
 use mathlib.Core.Path.{_≡_}
 use lib.ListN.{length}
 use borrow.Author.Needs.{needs}
+use Rattle.forms.specs.Room.{Behind}
 use Rattle.wording.proofs.put_missing_rows.Statement.{statement}
 use Rattle.wording.proofs.put_missing_rows.Tie as tie
 
 abbrev Inv-loop : tie.InvT-loop
-Inv-loop out₀ at taken end₀ k₀ out end k = (at ≤ end) × (end ≤ length out) × (length out ≡ length out₀) × (k ≤ 11)
+Inv-loop out₀ at taken end₀ k₀ out end k = Behind at end out × (length out ≡ length out₀) × (k ≤ 11)
 
 abbrev μ-loop : tie.MeasureT-loop
 μ-loop out₀ at taken end₀ k₀ out end k = 11 - k
@@ -15,4 +16,4 @@ pub put-missing-rows-spec : {M : Type 1} → statement M
 put-missing-rows-spec =
     tie.close
     (tie.spec Inv-loop μ-loop (search needs) (search needs) (search needs) (search needs) (search needs)
-    (search needs) (search needs) (search needs) (search needs) (search needs))
+    (search needs) (search needs) (search needs) (search needs) (search needs) (search needs))

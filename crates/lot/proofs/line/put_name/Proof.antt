@@ -12,7 +12,7 @@ returns : tie.Need-returns
 returns c =
     let put = c .before .before .before .before .before .before .put-text in
     let clean = c .before .before .clean in
-    let h : put .result ≤ length (clean .last .0 ++ drop (put .result) (put .last .0)) = rw length-append (omega (arith, clean .kept .0, put .ensures .1)) in
+    let h : put .result ≤ length (clean .last .0 ++ drop (put .result) (put .last .0)) = rw length-append (omega (arith, clean .kept .0, put .ensures .2)) in
     (h, sym (length-take-le _ _ h))
 
 pub put-name-spec : {M : Type 1} → statement M

@@ -1,0 +1,14 @@
+use native.Mathlib.Omega.{arith}
+use lib.ListN.{length-take}
+use borrow.Author.Needs.{needs}
+use Rattle.cut.proofs.print.Statement.{statement}
+use Rattle.cut.proofs.print.Tie as tie
+
+slice-aggregate-print-3 : tie.Need-slice-aggregate-print-3
+slice-aggregate-print-3 c = simp length-take (omega arith)
+
+pub print-spec : {M : Type 1} → statement M
+print-spec =
+    tie.close
+    (tie.spec (search needs) (search needs) (search needs) (search needs) (search needs)
+    slice-aggregate-print-3 (search needs) (search needs) (search needs) (search needs))

@@ -1,0 +1,21 @@
+use native.Mathlib.Omega.{arith}
+use lib.ListN.{length-take}
+use borrow.Author.Needs.{needs}
+use Rattle.forms.proofs.Cuts.{behind}
+use Rattle.forms.proofs.put_text.Statement.{statement}
+use Rattle.forms.proofs.put_text.Tie as tie
+
+slice-aggregate-put-bytes : tie.Need-slice-aggregate-put-bytes
+slice-aggregate-put-bytes c = simp length-take (omega arith)
+
+put-bytes-requires : tie.Need-put-bytes-requires
+put-bytes-requires c κs = simp length-take (omega arith)
+
+returns : tie.Need-returns
+returns c = behind _ _ _ (search needs) (search needs)
+
+pub put-text-spec : {M : Type 1} → statement M
+put-text-spec =
+    tie.close
+    (tie.spec (search needs) (search needs) slice-aggregate-put-bytes put-bytes-requires (search needs)
+    (search needs) returns)

@@ -1,0 +1,13 @@
+use Rattle.io.proofs.Counting.{counts}
+use borrow.Author.Needs.{needs}
+use Rattle.intake.proofs.take_named.Statement.{statement}
+use Rattle.intake.proofs.take_named.Tie as tie
+
+returns : tie.Need-returns
+returns c = (counts _ _ (search needs), counts _ _ (search needs))
+
+pub take-named-spec : {M : Type 1} → statement M
+take-named-spec =
+    tie.close
+    (tie.spec (search needs) (search needs) (search needs) returns (search needs) (search needs)
+    (search needs) (search needs) (search needs) (search needs) (search needs))
