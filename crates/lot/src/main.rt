@@ -182,14 +182,14 @@ fn read(name: &[u8], folder: &[u8], path: &[u8], label: &[u8], job: &[u8], lines
     finish(name, folder, path, &out, made)
 }
 
-// A job from its file.
-fn taken(name: &[u8], folder: &[u8], path: &[u8]) -> u8 {
+// A job from its file, in lent room: the job's 8 KB and its lines' 33 KB are made once a lot.
+fn taken(name: &[u8], folder: &[u8], path: &[u8], job: &mut [u8], lines: &mut [u32]) -> u8
+    requires { ⌜ length (now lines) ≡ length (now job) ⌝ }
+{
     let mut label = edge::label_buffer();
     let program = forms::put_text(&mut label, 0, b"lot: ");
     let labelled = forms::put_text(&mut label, program, name);
-    let mut job = intake::job_buffer();
-    let mut lines = intake::line_buffer();
-    let taken = intake::take_named(&label[..labelled], name, &mut job, &mut lines);
+    let taken = intake::take_named(&label[..labelled], name, job, lines);
     if taken.fault != intake::FINE {
         removed(path);
         return undone(name, taken.line, taken.column);
@@ -205,7 +205,9 @@ fn taken(name: &[u8], folder: &[u8], path: &[u8]) -> u8 {
 }
 
 // One job, by its name.
-fn one(name: &[u8], folder: &[u8], resume: bool) -> u8 {
+fn one(name: &[u8], folder: &[u8], resume: bool, job: &mut [u8], lines: &mut [u32]) -> u8
+    requires { ⌜ length (now lines) ≡ length (now job) ⌝ }
+{
     let mut path = path_buffer();
     let n = put_path(&mut path, folder, b"/", name, b".register");
     if resume {
@@ -214,7 +216,7 @@ fn one(name: &[u8], folder: &[u8], resume: bool) -> u8 {
             return kept(name, events);
         }
     }
-    taken(name, folder, &path[..n])
+    taken(name, folder, &path[..n], job, lines)
 }
 
 // The jobs so far, by how they ended.
@@ -273,8 +275,8 @@ struct Lot {
 }
 
 // One name more: passed over where it is empty or another part's.
-fn turn(lot: Lot, o: Options, name: &[u8], folder: &[u8]) -> Lot
-    requires { ⌜ 1 ≤ o .parts ⌝ }
+fn turn(lot: Lot, o: Options, name: &[u8], folder: &[u8], job: &mut [u8], lines: &mut [u32]) -> Lot
+    requires { ⌜ (1 ≤ o .parts) × (length (now lines) ≡ length (now job)) ⌝ }
 {
     let mut next = lot;
     if name.len() == 0 {
@@ -284,7 +286,7 @@ fn turn(lot: Lot, o: Options, name: &[u8], folder: &[u8]) -> Lot
     if lot.index % o.parts != o.part {
         return next;
     }
-    let state = one(name, folder, o.resume);
+    let state = one(name, folder, o.resume, job, lines);
     if state == STOPPED {
         next.stopped = true;
         return next;
@@ -319,6 +321,8 @@ fn run(o: Options, folder: &[u8])
     requires { ⌜ 1 ≤ o .parts ⌝ }
 {
     let mut window = window_buffer();
+    let mut job = intake::job_buffer();
+    let mut lines = intake::line_buffer();
     let separator = separator_of(o);
     let mut lot = new_lot();
     let mut at: usize = 0;
@@ -335,7 +339,7 @@ fn run(o: Options, folder: &[u8])
         }
         let start = name.start;
         let end = name.end;
-        lot = turn(lot, o, &window[start..end], folder);
+        lot = turn(lot, o, &window[start..end], folder, &mut job, &mut lines);
         if lot.stopped {
             return;
         }
