@@ -1,6 +1,4 @@
 // The program `lot`: many jobs in one process. Names of job files on standard input, a register each in a folder, a line a job
-use model::END_SIZE;
-use model::LINE_SIZE;
 // on standard output, and a last line that counts them.
 mod line;
 mod names;
@@ -9,14 +7,14 @@ mod paths;
 
 use job_register::Entry;
 use libc::ENOENT;
-use line::LOADED;
-use line::REFUSED;
-use line::STOPPED;
-use line::entered;
-use line::kept;
-use line::refused;
-use line::undone;
+use line::Ending;
+use line::put_line;
+use model::END_SIZE;
+use model::LINE_SIZE;
+use names::Name;
+use names::in_window;
 use names::next_name;
+use names::none;
 use options::Options;
 use options::read_options;
 use paths::put_path;
@@ -52,6 +50,17 @@ fn window_buffer() -> [u8; 4352]
     ensures { λ r. ⌜ 4352 ≡ length r ⌝ }
 {
     [0; 4352]
+}
+
+// Lines are gathered while names are at hand. A line has room for the longest name that there is, and the fields behind it.
+const LINES_SIZE: usize = 12288;
+
+const LINE_LIMIT: usize = 4480;
+
+fn lines_buffer() -> [u8; 12288]
+    ensures { λ r. ⌜ 12288 ≡ length r ⌝ }
+{
+    [0; 12288]
 }
 
 fn folder_buffer() -> [u8; 1024]
@@ -150,40 +159,49 @@ fn enter(label: &[u8], job: &[u8], lines: &[u32], out: &mut [u8]) -> Made
     }
 }
 
-// What is left of a job that has no register now: none, and its line.
-fn without(name: &[u8], path: &[u8], number: u8, why: Why) -> u8 {
-    if removed(path) {
-        return refused(name, number, why);
-    }
-    undone(name, 0, 0)
+fn undone() -> Ending {
+    Ending::Undone { row: 0, column: 0 }
 }
 
-// A job that was entered: its register is stored, and its line told.
-fn finish(name: &[u8], folder: &[u8], path: &[u8], out: &[u8], made: Made) -> u8
+// A job that was entered: its register is stored. One that was not has none from now on.
+fn finish(name: &[u8], folder: &[u8], path: &[u8], out: &[u8], made: Made) -> Ending
     requires { ⌜ (length (now out) ≡ 1232) × (made .entry .events ≤ 47) ⌝ }
 {
     let entry = made.entry;
     if entry.number != 0 {
-        let why = made.why;
-        return without(name, path, entry.number, why);
+        if removed(path) {
+            let why = made.why;
+            return Ending::Refused {
+                number: entry.number,
+                why: why,
+            };
+        }
+        return undone();
     }
     let size = entry.events * LINE_SIZE + END_SIZE;
     if stored(name, folder, path, &out[..size]) {
-        return entered(name, entry);
+        return line::entered(entry);
     }
     removed(path);
-    undone(name, 0, 0)
+    undone()
 }
 
 // A job that was read.
-fn read(name: &[u8], folder: &[u8], path: &[u8], label: &[u8], job: &[u8], lines: &[u32]) -> u8 {
+fn read(
+    name: &[u8],
+    folder: &[u8],
+    path: &[u8],
+    label: &[u8],
+    job: &[u8],
+    lines: &[u32],
+) -> Ending {
     let mut out = register_buffer();
     let made = enter(label, job, lines, &mut out);
     finish(name, folder, path, &out, made)
 }
 
 // A job from its file, in lent room: the job's 8 KB and its lines' 33 KB are made once a lot.
-fn taken(name: &[u8], folder: &[u8], path: &[u8], job: &mut [u8], lines: &mut [u32]) -> u8
+fn taken(name: &[u8], folder: &[u8], path: &[u8], job: &mut [u8], lines: &mut [u32]) -> Ending
     requires { ⌜ length (now lines) ≡ length (now job) ⌝ }
 {
     let mut label = edge::label_buffer();
@@ -192,7 +210,10 @@ fn taken(name: &[u8], folder: &[u8], path: &[u8], job: &mut [u8], lines: &mut [u
     let taken = intake::take_named(&label[..labelled], name, job, lines);
     if taken.fault != intake::FINE {
         removed(path);
-        return undone(name, taken.line, taken.column);
+        return Ending::Undone {
+            row: taken.line,
+            column: taken.column,
+        };
     }
     read(
         name,
@@ -205,7 +226,7 @@ fn taken(name: &[u8], folder: &[u8], path: &[u8], job: &mut [u8], lines: &mut [u
 }
 
 // One job, by its name.
-fn one(name: &[u8], folder: &[u8], resume: bool, job: &mut [u8], lines: &mut [u32]) -> u8
+fn one(name: &[u8], folder: &[u8], resume: bool, job: &mut [u8], lines: &mut [u32]) -> Ending
     requires { ⌜ length (now lines) ≡ length (now job) ⌝ }
 {
     let mut path = path_buffer();
@@ -213,7 +234,7 @@ fn one(name: &[u8], folder: &[u8], resume: bool, job: &mut [u8], lines: &mut [u3
     if resume {
         let events = events_at(&path[..n]);
         if 0 < events {
-            return kept(name, events);
+            return Ending::Kept(events);
         }
     }
     taken(name, folder, &path[..n], job, lines)
@@ -234,14 +255,26 @@ fn more(n: u64) -> u64 {
     n
 }
 
-fn counted(t: Tally, state: u8) -> Tally {
+fn counted(t: Tally, ending: Ending) -> Tally {
     let mut next = t;
-    if state == LOADED {
-        next.loaded = more(t.loaded);
-    } else if state == REFUSED {
-        next.refused = more(t.refused);
-    } else {
-        next.undone = more(t.undone);
+    match ending {
+        Ending::Entered {
+            gp,
+            internal,
+            events,
+            serial,
+        } => {
+            next.loaded = more(t.loaded);
+        }
+        Ending::Kept(_) => {
+            next.loaded = more(t.loaded);
+        }
+        Ending::Refused { number, why } => {
+            next.refused = more(t.refused);
+        }
+        Ending::Undone { row, column } => {
+            next.undone = more(t.undone);
+        }
     }
     next
 }
@@ -267,33 +300,103 @@ fn print_end(t: Tally) {
     edge::print(b"lot: standard output", &line[..end]);
 }
 
-// Where the lot stands: its counts, the number of the next name, and whether it goes on.
+// Where the lot stands: its counts, the number of the next name, and how many bytes of lines are gathered.
 struct Lot {
     pub tally: Tally,
     pub index: u64,
-    pub stopped: bool,
+    pub gathered: usize,
+}
+
+// Whether a name is this part's, by its number. There is no part of none.
+fn is_ours(o: Options, index: u64) -> bool {
+    if o.parts == 0 {
+        return false;
+    }
+    index % o.parts == o.part
 }
 
 // One name more: passed over where it is empty or another part's.
-fn turn(lot: Lot, o: Options, name: &[u8], folder: &[u8], job: &mut [u8], lines: &mut [u32]) -> Lot
-    requires { ⌜ (1 ≤ o .parts) × (length (now lines) ≡ length (now job)) ⌝ }
+fn turn(
+    lot: Lot,
+    o: Options,
+    name: &[u8],
+    folder: &[u8],
+    job: &mut [u8],
+    lines: &mut [u32],
+    out: &mut [u8],
+) -> Lot
+    requires { ⌜ (length (now lines) ≡ length (now job)) × (lot .gathered ≤ length (now out)) ⌝ }
+    ensures { λ r. ⌜ r .gathered ≤ length (now (out .exit)) ⌝ }
 {
     let mut next = lot;
     if name.len() == 0 {
         return next;
     }
     next.index = more(lot.index);
-    if lot.index % o.parts != o.part {
+    if !is_ours(o, lot.index) {
         return next;
     }
-    let state = one(name, folder, o.resume, job, lines);
-    if state == STOPPED {
-        next.stopped = true;
-        return next;
-    }
+    let ending = one(name, folder, o.resume, job, lines);
     let tally = lot.tally;
-    next.tally = counted(tally, state);
+    next.tally = counted(tally, ending);
+    next.gathered = put_line(out, lot.gathered, name, ending);
     next
+}
+
+// How much is gathered, and whether all that was to go out did.
+struct Sent {
+    pub gathered: usize,
+    pub good: bool,
+}
+
+// What is gathered goes out where names are waited for, and where another line might not fit.
+fn pass_on(out: &[u8], gathered: usize, waits: bool) -> Sent
+    requires { ⌜ gathered ≤ length (now out) ⌝ }
+    ensures { λ r. ⌜ r .gathered ≤ gathered ⌝ }
+{
+    if !waits && gathered <= LINES_SIZE - LINE_LIMIT {
+        return Sent {
+            gathered: gathered,
+            good: true,
+        };
+    }
+    Sent {
+        gathered: 0,
+        good: edge::print(b"lot: standard output", &out[..gathered]),
+    }
+}
+
+// The next name, and how much is gathered then.
+struct Next {
+    pub name: Name,
+    pub gathered: usize,
+}
+
+fn next_of(
+    window: &mut [u8],
+    at: usize,
+    filled: usize,
+    separator: u8,
+    out: &[u8],
+    gathered: usize,
+) -> Next
+    requires { ⌜ (at ≤ filled) × (filled ≤ length (now window)) × (gathered ≤ length (now out)) ⌝ }
+    ensures { λ r. ⌜ (r .name .start ≤ r .name .end) × (r .name .end ≤ r .name .filled) × (r .name .next ≤ r .name .filled) × (r .name .filled ≤ length (now (window .entry))) × (r .gathered ≤ gathered) ⌝ }
+{
+    let held = in_window(window, at, filled, separator);
+    let sent = pass_on(out, gathered, held.state == names::NONE);
+    if !sent.good {
+        let failed = none(names::FAILED);
+        return Next {
+            name: failed,
+            gathered: 0,
+        };
+    }
+    let name = next_name(held, window, at, filled, separator);
+    Next {
+        name: name,
+        gathered: sent.gathered,
+    }
 }
 
 fn separator_of(o: Options) -> u8 {
@@ -303,7 +406,9 @@ fn separator_of(o: Options) -> u8 {
     LINE_FEED
 }
 
-fn new_lot() -> Lot {
+fn new_lot() -> Lot
+    ensures { λ r. ⌜ r .gathered ≡ 0 ⌝ }
+{
     let tally = Tally {
         loaded: 0,
         refused: 0,
@@ -312,24 +417,26 @@ fn new_lot() -> Lot {
     Lot {
         tally: tally,
         index: 0,
-        stopped: false,
+        gathered: 0,
     }
 }
 
-// Name after name. The loop counts its turns down from a number that no run uses up, since nothing says that an input ends.
-fn run(o: Options, folder: &[u8])
-    requires { ⌜ 1 ≤ o .parts ⌝ }
-{
+// Name after name; what is gathered goes out before more names are waited for. The loop counts its turns down from a number that no
+// run uses up, since nothing says that an input ends.
+fn run(o: Options, folder: &[u8]) {
     let mut window = window_buffer();
     let mut job = intake::job_buffer();
     let mut lines = intake::line_buffer();
+    let mut out = lines_buffer();
     let separator = separator_of(o);
     let mut lot = new_lot();
     let mut at: usize = 0;
     let mut filled: usize = 0;
     let mut turns = u64::MAX;
     while 0 < turns {
-        let name = next_name(&mut window, at, filled, separator);
+        let next = next_of(&mut window, at, filled, separator, &out, lot.gathered);
+        let name = next.name;
+        lot.gathered = next.gathered;
         if name.state == names::FAILED {
             return;
         }
@@ -339,10 +446,15 @@ fn run(o: Options, folder: &[u8])
         }
         let start = name.start;
         let end = name.end;
-        lot = turn(lot, o, &window[start..end], folder, &mut job, &mut lines);
-        if lot.stopped {
-            return;
-        }
+        lot = turn(
+            lot,
+            o,
+            &window[start..end],
+            folder,
+            &mut job,
+            &mut lines,
+            &mut out,
+        );
         at = name.next;
         filled = name.filled;
         turns -= 1;

@@ -3,12 +3,14 @@ ghost use mathlib.Core.Path.{_≡_};
 ghost use Prim.Native.Nat.{_+_, _≤_, _<_};
 ghost use lib.ListN.{length};
 
-// How a search for the next name ends: with a name, at the input's end, or not at all, which was said.
+// How a search for the next name ends: with a name, at the input's end, or not at all, which was said; or with none in the window.
 pub const FOUND: u8 = 0;
 
 pub const ENDED: u8 = 1;
 
 pub const FAILED: u8 = 2;
+
+pub const NONE: u8 = 3;
 
 // A name from `start` to `end` of the window; the next one begins at `next`, and the window is filled up to `filled`.
 pub struct Name {
@@ -61,7 +63,7 @@ fn found(start: usize, end: usize, next: usize, filled: usize) -> Name
     }
 }
 
-fn none(state: u8) -> Name
+pub fn none(state: u8) -> Name
     ensures { λ r. ⌜ (r .start ≡ 0) × (r .end ≡ 0) × (r .next ≡ 0) × (r .filled ≡ 0) ⌝ }
 {
     Name {
@@ -97,14 +99,25 @@ fn refilled(window: &mut [u8], kept: usize, separator: u8) -> Name
     found(0, end, filled, filled)
 }
 
-// The next name in a window that is filled from `at` to `filled`.
-pub fn next_name(window: &mut [u8], at: usize, filled: usize, separator: u8) -> Name
+// The next whole name in a window that is filled from `at` to `filled`, if there is one.
+pub fn in_window(window: &[u8], at: usize, filled: usize, separator: u8) -> Name
     requires { ⌜ (at ≤ filled) × (filled ≤ length (now window)) ⌝ }
     ensures { λ r. ⌜ (r .start ≤ r .end) × (r .end ≤ r .filled) × (r .next ≤ r .filled) × (r .filled ≤ length (now (window .entry))) ⌝ }
 {
     let end = end_of(window, at, filled, separator);
     if end < filled {
         return found(at, end, end + 1, filled);
+    }
+    none(NONE)
+}
+
+// The next name: the one that was found, else one that is read on for.
+pub fn next_name(held: Name, window: &mut [u8], at: usize, filled: usize, separator: u8) -> Name
+    requires { ⌜ (at ≤ filled) × (filled ≤ length (now window)) × (held .start ≤ held .end) × (held .end ≤ held .filled) × (held .next ≤ held .filled) × (held .filled ≤ length (now window)) ⌝ }
+    ensures { λ r. ⌜ (r .start ≤ r .end) × (r .end ≤ r .filled) × (r .next ≤ r .filled) × (r .filled ≤ length (now (window .entry))) ⌝ }
+{
+    if held.state != NONE {
+        return held;
     }
     let kept = keep(window, at, filled);
     refilled(window, kept, separator)

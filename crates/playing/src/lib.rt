@@ -1,9 +1,10 @@
 // A session, played block by block: any number of events, in the memory of one block. What `replay` and `show` share, and how
 // `trace` begins.
 use model::Card;
+use register::Entered;
 use remarks::Noted;
 ghost use mathlib.Core.Path.{_≡_};
-ghost use Prim.Native.Nat.{_*_, _/_, _≤_, _<_};
+ghost use Prim.Native.Nat.{_+_, _*_, _/_, _≤_, _<_};
 ghost use lib.ListN.{length};
 ghost use Rattle.lists.specs.Bytes.{zeros};
 ghost use Rattle.model.specs.Stored.{areaSize};
@@ -11,6 +12,11 @@ ghost use Rattle.soundness.specs.Keeps.{Good};
 
 // 126 records.
 const BLOCK_SIZE: usize = 32760;
+
+// Lines are gathered over ten blocks: so many bytes, and so many of one block.
+const LINES_SIZE: usize = 32760;
+
+const BLOCK_LINES: usize = 3276;
 
 // The buffers, each by what its user asks of it.
 pub fn clear_area() -> [u8; 4096]
@@ -25,10 +31,10 @@ fn block_buffer() -> [u8; 32760]
     [0; 32760]
 }
 
-fn line_buffer() -> [u8; 3276]
-    ensures { λ r. ⌜ 3276 ≡ length r ⌝ }
+fn line_buffer() -> [u8; 32760]
+    ensures { λ r. ⌜ 32760 ≡ length r ⌝ }
 {
-    [0; 3276]
+    [0; 32760]
 }
 
 // Whether a chip record was read and passes. What is wrong with it is said.
@@ -63,40 +69,70 @@ pub fn begin(label: &[u8], fd: i32) -> Begun
     }
 }
 
-// How far a session is played: the card, the number of events by its last five digits, what was noted of them, how many bytes are
-// behind the last whole record; whether to go on, and whether a read or a write failed, which was said.
+// How far a session is played: the card, the number of events by its last five digits, what was noted of them, how many bytes of lines
+// are gathered, and how many of the session are behind the last whole record; whether to go on, and whether a read or a write failed,
+// which was said.
 struct Stand {
     pub card: Card,
     pub count: u64,
     pub noted: Noted,
+    pub gathered: usize,
     pub left: usize,
     pub going: bool,
     pub failed: bool,
 }
 
-// What was noted so far, and whether the lines went out.
+// What was noted so far, how much is gathered, and whether all lines went out that were to.
 struct Report {
     pub noted: Noted,
-    pub printed: bool,
+    pub gathered: usize,
+    pub good: bool,
 }
 
-// Records that were played: what is refused is said, and their lines are printed, unless `output`, the label of standard output, is
-// empty.
-fn reported(label: &[u8], output: &[u8], records: &[u8], lines: &[u8], before: Noted) -> Report
-    requires { ⌜ length (now records) / 260 * 26 ≤ length (now lines) ⌝ }
+// Records that were played, with their lines from `at` on: what is refused is said. The lines are printed behind the last block, and
+// where another block's might not fit; not at all where `output`, the label of standard output, is empty.
+fn reported(
+    label: &[u8],
+    output: &[u8],
+    records: &[u8],
+    lines: &[u8],
+    at: usize,
+    before: Noted,
+) -> Report
+    requires { ⌜ (at + length (now records) / 260 * 26 ≤ length (now lines)) × (length (now lines) ≡ 32760) ⌝ }
+    ensures { λ r. ⌜ r .gathered + 3276 ≤ 32760 ⌝ }
 {
-    let noted = remarks::note_all(label, records, lines, before);
+    let noted = remarks::note_all(label, records, &lines[at..], before);
     if output.len() == 0 {
         return Report {
             noted: noted,
-            printed: true,
+            gathered: 0,
+            good: true,
         };
     }
-    let end = records.len() / model::RECORD_SIZE * model::LINE_SIZE;
+    let end = at + records.len() / model::RECORD_SIZE * model::LINE_SIZE;
+    if end <= LINES_SIZE - BLOCK_LINES {
+        if records.len() == BLOCK_SIZE {
+            return Report {
+                noted: noted,
+                gathered: end,
+                good: true,
+            };
+        }
+    }
     Report {
         noted: noted,
-        printed: edge::print(output, &lines[..end]),
+        gathered: 0,
+        good: edge::print(output, &lines[..end]),
     }
+}
+
+// Whole records are played, and their lines written from `at` on.
+fn enter_at(c: Card, area: &mut [u8], records: &[u8], count: u64, lines: &mut [u8], at: usize) -> Entered
+    requires { ⌜ Good areaSize c (now area) × (count < 100000) × (at + length (now records) / 260 * 26 ≤ length (now lines)) ⌝ }
+    ensures { λ r. ⌜ Good areaSize (r .card) (now (area .exit)) × (r .count < 100000) ⌝ }
+{
+    register::enter_all(c, area, records, count, &mut lines[at..])
 }
 
 // The whole records of the next block. A torn last record is not an event.
@@ -109,8 +145,8 @@ fn play_block(
     label: &[u8],
     output: &[u8],
 ) -> Stand
-    requires { ⌜ Good areaSize (s .card) (now area) × (s .count < 100000) × (length (now block) ≡ 32760) × (length (now lines) ≡ 3276) ⌝ }
-    ensures { λ r. ⌜ Good areaSize (r .card) (now (area .exit)) × (r .count < 100000) ⌝ }
+    requires { ⌜ Good areaSize (s .card) (now area) × (s .count < 100000) × (length (now block) ≡ 32760) × (length (now lines) ≡ 32760) × (s .gathered + 3276 ≤ 32760) ⌝ }
+    ensures { λ r. ⌜ Good areaSize (r .card) (now (area .exit)) × (r .count < 100000) × (r .gathered + 3276 ≤ 32760) ⌝ }
 {
     let card = s.card;
     let noted = s.noted;
@@ -120,23 +156,26 @@ fn play_block(
             card: card,
             count: s.count,
             noted: noted,
+            gathered: 0,
             left: 0,
             going: false,
             failed: true,
         };
     }
     let records = &block[..got.count];
-    let last = register::enter_all(card, area, records, s.count, lines);
-    let report = reported(label, output, records, lines, noted);
+    let at = s.gathered;
+    let last = enter_at(card, area, records, s.count, lines, at);
+    let report = reported(label, output, records, lines, at, noted);
     let after = last.card;
     let so_far = report.noted;
     Stand {
         card: after,
         count: last.count,
         noted: so_far,
+        gathered: report.gathered,
         left: got.count % model::RECORD_SIZE,
-        going: got.count == BLOCK_SIZE && report.printed,
-        failed: !report.printed,
+        going: got.count == BLOCK_SIZE && report.good,
+        failed: !report.good,
     }
 }
 
@@ -155,6 +194,7 @@ fn play_all(c: Card, area: &mut [u8], fd: i32, label: &[u8], output: &[u8]) -> S
         card: c,
         count: 0,
         noted: noted,
+        gathered: 0,
         left: 0,
         going: true,
         failed: false,

@@ -10,5 +10,6 @@ slice-aggregate-stored c = simp length-take (omega arith)
 pub finish-spec : {M : Type 1} → statement M
 finish-spec =
     tie.close
-    (tie.spec (search needs) (search needs) (search needs) (search needs) slice-aggregate-stored
-    (search needs) (search needs) (search needs) (search needs) (search needs) (search needs))
+    (tie.spec (search needs) (search needs) (search needs) (search needs) (search needs) (search needs)
+    slice-aggregate-stored (search needs) (search needs) (search needs) (search needs) (search needs)
+    (search needs))

@@ -6,17 +6,19 @@ use Rattle.lot.proofs.run.Statement.{statement}
 use Rattle.lot.proofs.run.Tie as tie
 
 abbrev Inv-loop : tie.InvT-loop
-Inv-loop o folder window₀ job₀ lines₀ separator lot₀ at₀ filled₀ turns₀ window job lines lot at filled turns =
-    (length window ≡ 4352) × (length job ≡ 8233) × (length lines ≡ 8233) × (at ≤ filled) × (filled ≤ 4352)
+Inv-loop o folder window₀ job₀ lines₀ out₀ separator lot₀ at₀ filled₀ turns₀ window job lines out lot at filled turns =
+    (length window ≡ 4352) × (length job ≡ 8233) × (length lines ≡ 8233) × (length out ≡ 12288) × (at ≤ filled)
+    × (filled ≤ 4352) × (lot .gathered ≤ 12288)
 
 abbrev μ-loop : tie.MeasureT-loop
-μ-loop o folder window₀ job₀ lines₀ separator lot₀ at₀ filled₀ turns₀ window job lines lot at filled turns =
+μ-loop o folder window₀ job₀ lines₀ out₀ separator lot₀ at₀ filled₀ turns₀ window job lines out lot at filled turns =
     turns
 
 pub run-spec : {M : Type 1} → statement M
 run-spec =
     tie.close
     (tie.spec Inv-loop μ-loop (search needs) (search needs) (search needs) (search needs) (search needs)
-    (search needs) (search needs) (search needs) (search needs) (search needs) (search needs) (search needs)
-    (search needs) (search needs) (search needs) (search needs) (search needs) (search needs) (search needs)
-    (search needs) (search needs) (search needs))
+    (search needs) (search needs) (search needs) (search needs) (search needs) (search needs)
+    (search needs) (search needs) (search needs) (search needs) (search needs) (search needs)
+    (search needs) (search needs) (search needs) (search needs) (search needs) (search needs)
+    (search needs))

@@ -6,9 +6,9 @@ use Rattle.playing.proofs.play_block.Tie as tie
 reported-requires : tie.Need-reported-requires
 reported-requires c κs =
     let read = c .before .before .before .before .before .before .before .before .before .before .before .before .read-labelled in
-    let enter = c .before .before .before .before .before .enter-all in
+    let enter = c .before .before .before .before .before .enter-at in
     let pre = c .before .before .before .before .before .before .before .before .before .before .before .before .before .before .before .before .before .before .before .before .before .pre in
-    omega (arith, read .ensures, read .kept .1 .1 .0, enter .kept .1 .1 .1 .1 .0, pre .2, pre .3)
+    omega (arith, read .ensures, read .kept .1 .1 .0, enter .kept .1 .1 .1 .1 .0, pre .2, pre .3, pre .4)
 
 pub play-block-spec : {M : Type 1} → statement M
 play-block-spec =

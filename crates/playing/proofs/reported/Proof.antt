@@ -10,5 +10,5 @@ slice-aggregate-print c = simp length-take (omega arith)
 pub reported-spec : {M : Type 1} → statement M
 reported-spec =
     tie.close
-    (tie.spec (search needs) (search needs) (search needs) slice-aggregate-print (search needs)
-    (search needs))
+    (tie.spec (search needs) (search needs) (search needs) (search needs) (search needs) (search needs)
+    (search needs) (search needs) (search needs) slice-aggregate-print (search needs) (search needs))

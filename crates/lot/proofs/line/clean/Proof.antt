@@ -7,13 +7,10 @@ use Rattle.lot.proofs.line.clean.Statement.{statement}
 use Rattle.lot.proofs.line.clean.Tie as tie
 
 abbrev Inv-loop : tie.InvT-loop
-Inv-loop text₀ i₀ text i = (i ≤ length text) × (length text ≡ length text₀)
+Inv-loop line₀ from to i₀ line i = (to ≤ length line) × (length line ≡ length line₀)
 
 abbrev μ-loop : tie.MeasureT-loop
-μ-loop text₀ i₀ text i = length text - i
-
-loop-less : tie.Need-loop-less Inv-loop μ-loop
-loop-less c = rw length-set (omega arith)
+μ-loop line₀ from to i₀ line i = to - i
 
 loop-again : tie.Need-loop-again Inv-loop μ-loop
 loop-again c = (rw length-set (omega arith), rw length-set (omega arith))
@@ -22,4 +19,4 @@ pub clean-spec : {M : Type 1} → statement M
 clean-spec =
     tie.close
     (tie.spec Inv-loop μ-loop (search needs) (search needs) (search needs) (search needs) (search needs)
-    loop-less loop-again (search needs) (search needs))
+    (search needs) loop-again (search needs) (search needs))
