@@ -14,7 +14,8 @@ pub asks-reference : (c : Card) (tag : ℕ) → tag ≡ 0x9484 → answerTo tag 
 unfolding answerTo
 asks-reference c tag e = rw (eq-eqb tag 0x9484 e)
 
-pub asks-traceability : (c : Card) (tag : ℕ) → (tag ≡ 0x9484 → ⊥) → tag ≡ 0x8185 → answerTo tag c ≡ c .chip .traceability
+pub asks-traceability : (c : Card) (tag : ℕ) → (tag ≡ 0x9484 → ⊥) → tag ≡ 0x8185
+    → answerTo tag c ≡ c .chip .traceability
 unfolding answerTo
 asks-traceability c tag n e = rw (ne-eqb tag 0x9484 n, eq-eqb tag 0x8185 e)
 
@@ -22,7 +23,8 @@ asks-traceability c tag n e = rw (ne-eqb tag 0x9484 n, eq-eqb tag 0x8185 e)
 abbrev pub states : ℕ → ℕ → List ℕ
 states gp internal = 0x9F ∷ 0x70 ∷ 0x01 ∷ gp ∷ 0x9F ∷ 0xDC ∷ 0x01 ∷ internal ∷ []
 
-pub asks-states : (c : Card) (tag : ℕ) → (tag ≡ 0x9484 → ⊥) → (tag ≡ 0x8185 → ⊥) → answerTo tag c ≡ states (c .life .gp) (c .loading .running .internal)
+pub asks-states : (c : Card) (tag : ℕ) → (tag ≡ 0x9484 → ⊥) → (tag ≡ 0x8185 → ⊥)
+    → answerTo tag c ≡ states (c .life .gp) (c .loading .running .internal)
 unfolding answerTo
 asks-states c tag n m = rw (ne-eqb tag 0x9484 n, ne-eqb tag 0x8185 m)
 

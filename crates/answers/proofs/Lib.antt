@@ -1,1 +1,2 @@
+pub mod Fci
 pub mod Asked

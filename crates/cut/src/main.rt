@@ -11,48 +11,48 @@ fn print(chip: &[u8], records: &[u8], count: usize) -> u8
     requires { ⌜ (length (now records) ≡ 12220) × (count ≤ 45) ⌝ }
 {
     let size = (count + FIRST_RECORDS) * model::RECORD_SIZE;
-    if edge::print(b"cut: standard output", chip) {
-        if edge::print(b"cut: standard output", &records[..size]) {
-            return edge::DONE;
+    if io_edge::print(b"cut: standard output", chip) {
+        if io_edge::print(b"cut: standard output", &records[..size]) {
+            return io_edge::DONE;
         }
     }
-    edge::NOT_DONE
+    io_edge::NOT_DONE
 }
 
 // A job's session, or its refusal. `lines` are those of its text, none where it is no text.
 fn cut(label: &[u8], job: &[u8], lines: &[u32]) -> u8 {
-    let end = intake::chip_end(job);
-    let mut room = intake::record_buffer();
+    let end = io_intake::chip_end(job);
+    let mut room = io_intake::record_buffer();
     let written = job_session::lay_session(&job[..end], &job[end..], &mut room);
     if written.number != 0 {
-        intake::say_refused(label, written.number, job, lines);
-        return edge::REFUSED;
+        io_intake::say_refused(label, written.number, job, lines);
+        return io_edge::REFUSED;
     }
     print(&job[..end], &room, written.count)
 }
 
 fn run(label: &[u8], fd: i32, is_text: bool) -> u8 {
-    let mut room = intake::job_buffer();
-    let mut lines = intake::line_buffer();
-    let job = intake::take(fd, is_text, &mut room, &mut lines);
-    if job.fault != intake::FINE {
-        intake::say_unread(label, job);
-        return edge::NOT_DONE;
+    let mut room = io_intake::job_buffer();
+    let mut lines = io_intake::line_buffer();
+    let job = io_intake::take(fd, is_text, &mut room, &mut lines);
+    if job.fault != io_intake::FINE {
+        io_intake::say_unread(label, job);
+        return io_edge::NOT_DONE;
     }
     cut(label, &room[..job.count], &lines[..job.known])
 }
 
 // The arguments are `[--tell] [--hex] [FILE]`.
 fn main() {
-    let mut label = edge::label_buffer();
-    let tells = edge::is_arg(1, b"--tell");
-    let i = edge::behind(1, tells);
-    let hex = edge::is_arg(i, b"--hex");
-    let source = edge::open_last(b"cut: ", edge::behind(i, hex), &mut label);
+    let mut label = io_edge::label_buffer();
+    let tells = io_edge::is_arg(1, b"--tell");
+    let i = io_edge::behind(1, tells);
+    let hex = io_edge::is_arg(i, b"--hex");
+    let source = io_edge::open_last(b"cut: ", io_edge::behind(i, hex), &mut label);
     if source.fd < 0 {
-        edge::tell(tells, edge::NOT_DONE);
+        io_edge::tell(tells, io_edge::NOT_DONE);
         return;
     }
     let status = run(&label[..source.labelled], source.fd, hex || source.is_text);
-    edge::tell(tells, status);
+    io_edge::tell(tells, status);
 }

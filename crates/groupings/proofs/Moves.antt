@@ -13,7 +13,7 @@ use Rattle.model.specs.declared.Pulled.{Pulled}
 use Rattle.model.specs.declared.Pulled.the-variants.{Ended, Broken, Grouping}
 use Rattle.model.specs.Header.{headerOf}
 use Rattle.model.specs.Order.{pulledAt, pullOf}
-use Rattle.reader.specs.Reads.{foundBy, foundAt}
+use Rattle.order_reader.specs.Reads.{foundBy, foundAt}
 use Rattle.header.proofs.Units.{Within, header-within}
 
 -- from its place on, and within n bytes
@@ -35,7 +35,8 @@ pull-ahead order at =
     by-cond (Ahead at (length order)) (leb (length order) at) (λ e. tt)
     (λ e. head-ahead (drop at order) at (length order) (headerOf (drop at order)) (header-within (drop at order)))
 
-by-pull : (at n : ℕ) (p : Pulled) → Ahead at n p → foundBy p at .ending ≡ 0 → (at < foundBy p at .next) × (foundBy p at .next ≤ n)
+by-pull : (at n : ℕ) (p : Pulled) → Ahead at n p → foundBy p at .ending ≡ 0
+    → (at < foundBy p at .next) × (foundBy p at .next ≤ n)
 by-pull at n Ended a e = absurd (omega arith)
 by-pull at n Broken a e = absurd (omega arith)
 by-pull at n (Grouping tag start len) a e = a

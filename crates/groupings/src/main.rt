@@ -1,11 +1,11 @@
 // The program `groupings [--tell] [--job] [--hex] [FILE]`: an order, or a job's, is read, as bytes or as hexadecimal
 // text, a line a pull is written to standard output, and last which ending it has. It streams: an order of any
 // length, in the memory of one window and one buffer.
+use job_text::Mode;
+use job_text::Place;
+use job_text::Reading;
 use model::CHIP_SIZE;
 use model::Header;
-use text::Mode;
-use text::Place;
-use text::Reading;
 ghost use mathlib.Core.Path.{_≡_};
 ghost use Prim.Native.Nat.{_+_, _*_, _≤_, _<_};
 ghost use lib.ListN.{length};
@@ -27,7 +27,7 @@ const DASH: u8 = 0x2D;
 
 // `good` says that all went out so far. Where a write fails, nothing is written behind it.
 fn write(good: &mut bool, text: &[u8]) {
-    edge::print_on(good, b"groupings: standard output", text);
+    io_edge::print_on(good, b"groupings: standard output", text);
 }
 
 // How much of the buffer stays filled where so many more characters come: all, or none of it once it is written.
@@ -59,7 +59,7 @@ fn put_tag(good: &mut bool, out: &mut [u8], filled: usize, tag: u16) -> usize
     ensures { λ r. ⌜ r ≤ length (now (out .entry)) ⌝ }
 {
     let at = room_for(good, out, filled, 5);
-    hex::put_hex4(out, at, tag);
+    print_numbers::put_hex4(out, at, tag);
     out[at + 4] = BLANK;
     at + 5
 }
@@ -69,7 +69,7 @@ fn put_piece(good: &mut bool, out: &mut [u8], filled: usize, piece: &[u8]) -> us
     ensures { λ r. ⌜ r ≤ length (now (out .entry)) ⌝ }
 {
     let at = room_for(good, out, filled, 2 * piece.len());
-    hex::put_hex(out, at, piece)
+    print_numbers::put_hex(out, at, piece)
 }
 
 // Bytes of a value in hexadecimal.
@@ -80,7 +80,7 @@ fn put_bytes(good: &mut bool, out: &mut [u8], filled: usize, value: &[u8]) -> us
     let mut to = filled;
     let mut i: usize = 0;
     while i < value.len() {
-        let n = bytes::least(value.len() - i, PIECE);
+        let n = memory::least(value.len() - i, PIECE);
         to = put_piece(good, out, to, &value[i..i + n]);
         i += n;
     }
@@ -96,7 +96,7 @@ fn put_value(out: &mut [u8], at: usize, value: &[u8]) -> usize
         out[at] = DASH;
         return at + 1;
     }
-    hex::put_hex(out, at, value)
+    print_numbers::put_hex(out, at, value)
 }
 
 // The line of a grouping likewise.
@@ -104,7 +104,7 @@ fn put_line(out: &mut [u8], at: usize, tag: u16, value: &[u8]) -> usize
     requires { ⌜ at + 2 * length (now value) + 7 ≤ length (now out) ⌝ }
     ensures { λ r. ⌜ r ≤ length (now (out .entry)) ⌝ }
 {
-    hex::put_hex4(out, at, tag);
+    print_numbers::put_hex4(out, at, tag);
     out[at + 4] = BLANK;
     let end = put_value(out, at + 5, value);
     out[end] = LINE_FEED;
@@ -140,7 +140,7 @@ fn print_whole(good: &mut bool, order: &[u8], out: &mut [u8], start: usize) -> U
     let mut at: usize = 0;
     let mut filled = start;
     while at < order.len() {
-        let found = reader::found_at(order, at);
+        let found = order_reader::found_at(order, at);
         if found.ending != 0 {
             return Used {
                 at: at,
@@ -148,7 +148,7 @@ fn print_whole(good: &mut bool, order: &[u8], out: &mut [u8], start: usize) -> U
                 owed: 0,
             };
         }
-        let value = reader::value_of(order, found);
+        let value = order_reader::value_of(order, found);
         filled = put_grouping(good, out, filled, found.tag, value);
         at = found.next;
     }
@@ -180,7 +180,7 @@ fn print_long(good: &mut bool, order: &[u8], out: &mut [u8], filled: usize) -> U
                 };
             }
             Used {
-                at: bytes::least(head.size, order.len()),
+                at: memory::least(head.size, order.len()),
                 filled: put_tag(good, out, filled, head.tag),
                 owed: head.len,
             }
@@ -193,7 +193,7 @@ fn print_more(good: &mut bool, order: &[u8], out: &mut [u8], filled: usize, owed
     requires { ⌜ (filled ≤ length (now out)) × (8192 ≤ length (now out)) ⌝ }
     ensures { λ r. ⌜ (r .at ≤ length (now (order .entry))) × (r .filled ≤ length (now (out .entry))) ⌝ }
 {
-    let n = bytes::least(owed, order.len());
+    let n = memory::least(owed, order.len());
     let to = put_bytes(good, out, filled, &order[..n]);
     if n < owed {
         return Used {
@@ -281,7 +281,7 @@ fn fill_bytes(window: &mut [u8], kept: usize, input: Input, label: &[u8]) -> Fil
     requires { ⌜ kept ≤ length (now window) ⌝ }
     ensures { λ r. ⌜ r .end ≤ length (now (window .exit)) ⌝ }
 {
-    let got = edge::read_labelled(label, input.fd, &mut window[kept..]);
+    let got = io_edge::read_labelled(label, input.fd, &mut window[kept..]);
     let end = kept + got.count;
     filled_to(end, input, end < window.len(), got.failed)
 }
@@ -301,7 +301,7 @@ fn is_wrong(label: &[u8], r: Reading) -> bool {
     if fault == 0 {
         return false;
     }
-    edge::say_fault(label, fault == HALF, r.line, r.column);
+    io_edge::say_fault(label, fault == HALF, r.line, r.column);
     true
 }
 
@@ -330,7 +330,7 @@ fn place_of(r: Reading) -> Place {
 // The reading at the end of a chunk: a short one is the text's last.
 fn closed(r: Reading, last: bool) -> Reading {
     if last {
-        return text::finish(r);
+        return job_text::finish(r);
     }
     r
 }
@@ -361,14 +361,14 @@ fn take_chunk(window: &mut [u8], filled: usize, input: Input, label: &[u8]) -> F
     ensures { λ r. ⌜ r .end ≤ length (now (window .exit)) ⌝ }
 {
     let mut chars = [0u8; 512];
-    let got = edge::read_labelled(label, input.fd, &mut chars);
+    let got = io_edge::read_labelled(label, input.fd, &mut chars);
     if got.failed {
         return filled_to(filled, input, true, true);
     }
     let n = got.count;
     let mut lines = [0u32; 512];
     let place = input.place;
-    let r = text::read(
+    let r = job_text::read(
         reading_at(place),
         &chars[..n],
         &mut window[filled..filled + CHUNK],
@@ -433,7 +433,7 @@ fn front_of(kept: usize, input: Input, status: u8) -> Front
 
 // A chip record that is too short.
 fn say_short(label: &[u8], n: usize) {
-    edge::say_form(
+    io_edge::say_form(
         label,
         b": the chip record has # byte~, and it must have 40\n",
         &[n as u64],
@@ -448,14 +448,14 @@ fn pass_chip(window: &mut [u8], input: Input, label: &[u8]) -> Front
     let end = f.end;
     let next = f.input;
     if f.failed {
-        return front_of(0, next, edge::NOT_DONE);
+        return front_of(0, next, io_edge::NOT_DONE);
     }
     if end < CHIP_SIZE {
         say_short(label, end);
-        return front_of(0, next, edge::REFUSED);
+        return front_of(0, next, io_edge::REFUSED);
     }
     let n = keep(window, CHIP_SIZE, end);
-    front_of(n, next, edge::DONE)
+    front_of(n, next, io_edge::DONE)
 }
 
 // The front of the order.
@@ -465,7 +465,7 @@ fn open_order(window: &mut [u8], input: Input, is_job: bool, label: &[u8]) -> Fr
     if is_job {
         return pass_chip(window, input, label);
     }
-    front_of(0, input, edge::DONE)
+    front_of(0, input, io_edge::DONE)
 }
 
 // Where the reading stands: how much is kept at the window's front and filled of the buffer, how many bytes of a long
@@ -605,7 +605,7 @@ fn print_ending(out: &[u8], s: Stand) -> bool
     let breaks = 0 < s.owed;
     let mut good = true;
     let mut line = [0u8; 32];
-    let n = forms::put_form(
+    let n = print_forms::put_form(
         &mut line,
         0,
         b"%{\x01\n|}%{\x00end|\x01torn|}\n",
@@ -618,7 +618,7 @@ fn print_ending(out: &[u8], s: Stand) -> bool
 
 fn say_torn(label: &[u8], s: Stand, rest: u64) {
     let read = std::num::wrapping_add_u64(s.front, s.kept as u64);
-    edge::say_form(
+    io_edge::say_form(
         label,
         b": torn at byte # of #: a header or a value is not whole there\n",
         &[s.began, std::num::wrapping_add_u64(read, rest)],
@@ -642,32 +642,32 @@ fn groupings(input: Input, is_job: bool, label: &[u8]) -> u8 {
     let mut window = window_buffer();
     let mut out = text_buffer();
     let begun = open_order(&mut window, input, is_job, label);
-    if begun.status != edge::DONE {
+    if begun.status != io_edge::DONE {
         return begun.status;
     }
     let first = begun.input;
     let s = print_order(&mut window, &mut out, begun.kept, first, label);
     if s.failed {
-        return edge::NOT_DONE;
+        return io_edge::NOT_DONE;
     }
     let left = s.input;
     let rest = read_rest(&mut window, left, label);
     if rest.failed {
-        return edge::NOT_DONE;
+        return io_edge::NOT_DONE;
     }
     if print_ending(&out, s) {
         let torn = is_torn(s);
         if torn {
             say_torn(label, s, rest.count);
         }
-        return edge::status_of(torn);
+        return io_edge::status_of(torn);
     }
-    edge::NOT_DONE
+    io_edge::NOT_DONE
 }
 
 // Nothing is read yet.
 fn unread(fd: i32, is_text: bool) -> Input {
-    let place = place_of(text::start());
+    let place = place_of(job_text::start());
     Input {
         fd: fd,
         is_text: is_text,
@@ -678,18 +678,18 @@ fn unread(fd: i32, is_text: bool) -> Input {
 
 // The arguments are `[--tell] [--job] [--hex] [FILE]`.
 fn main() {
-    let mut label = edge::label_buffer();
-    let tells = edge::is_arg(1, b"--tell");
-    let first = edge::behind(1, tells);
-    let is_job = edge::is_arg(first, b"--job");
-    let second = edge::behind(first, is_job);
-    let hex = edge::is_arg(second, b"--hex");
-    let source = edge::open_last(b"groupings: ", edge::behind(second, hex), &mut label);
+    let mut label = io_edge::label_buffer();
+    let tells = io_edge::is_arg(1, b"--tell");
+    let first = io_edge::behind(1, tells);
+    let is_job = io_edge::is_arg(first, b"--job");
+    let second = io_edge::behind(first, is_job);
+    let hex = io_edge::is_arg(second, b"--hex");
+    let source = io_edge::open_last(b"groupings: ", io_edge::behind(second, hex), &mut label);
     if source.fd < 0 {
-        edge::tell(tells, edge::NOT_DONE);
+        io_edge::tell(tells, io_edge::NOT_DONE);
         return;
     }
     let input = unread(source.fd, hex || source.is_text);
     let status = groupings(input, is_job, &label[..source.labelled]);
-    edge::tell(tells, status);
+    io_edge::tell(tells, status);
 }

@@ -22,21 +22,53 @@ module _ (s : List ℕ) (at : ℕ) where
   unfolding headerOf
   torn-short h = rw (length-drop, lt-ltb (length s - at) 3 h)
 
-  pub short-form : 3 ≤ length s - at → (byteAt s (at + 2) ≡ 0xFF → ⊥) → headerOf (drop at s) ≡ headed (wordAt s at) 3 (byteAt s (at + 2))
+  pub short-form : 3 ≤ length s - at → (byteAt s (at + 2) ≡ 0xFF → ⊥)
+      → headerOf (drop at s) ≡ headed (wordAt s at) 3 (byteAt s (at + 2))
   unfolding headerOf
-  short-form h n = rw (length-drop, le-ltb (length s - at) 3 h, getD-drop at s 2 0, ne-eqb (byteAt s (at + 2)) 0xFF n, word-front s at)
+  short-form h n = rw (
+    length-drop,
+    le-ltb (length s - at) 3 h,
+    getD-drop at s 2 0,
+    ne-eqb (byteAt s (at + 2)) 0xFF n,
+    word-front s at,
+  )
 
   pub torn-long : 3 ≤ length s - at → byteAt s (at + 2) ≡ 0xFF → length s - at < 5 → headerOf (drop at s) ≡ Torn
   unfolding headerOf longForm
   torn-long h e g =
-      rw (length-drop, le-ltb (length s - at) 3 h, getD-drop at s 2 0, eq-eqb (byteAt s (at + 2)) 0xFF e, lt-ltb (length s - at) 5 g)
+      rw (
+        length-drop,
+        le-ltb (length s - at) 3 h,
+        getD-drop at s 2 0,
+        eq-eqb (byteAt s (at + 2)) 0xFF e,
+        lt-ltb (length s - at) 5 g,
+      )
 
-  pub long-ffff : 5 ≤ length s - at → byteAt s (at + 2) ≡ 0xFF → wordAt s (at + 3) ≡ 0xFFFF → headerOf (drop at s) ≡ Torn
+  pub long-ffff : 5 ≤ length s - at → byteAt s (at + 2) ≡ 0xFF → wordAt s (at + 3) ≡ 0xFFFF
+      → headerOf (drop at s) ≡ Torn
   unfolding headerOf longForm
   long-ffff g e f =
-      rw (length-drop, le-ltb (length s - at) 3 (omega arith), getD-drop at s 2 0, eq-eqb (byteAt s (at + 2)) 0xFF e, le-ltb (length s - at) 5 g, word-drop s at 3, eq-eqb (wordAt s (at + 3)) 0xFFFF f)
+      rw (
+        length-drop,
+        le-ltb (length s - at) 3 (omega arith),
+        getD-drop at s 2 0,
+        eq-eqb (byteAt s (at + 2)) 0xFF e,
+        le-ltb (length s - at) 5 g,
+        word-drop s at 3,
+        eq-eqb (wordAt s (at + 3)) 0xFFFF f,
+      )
 
-  pub long-form : 5 ≤ length s - at → byteAt s (at + 2) ≡ 0xFF → (wordAt s (at + 3) ≡ 0xFFFF → ⊥) → headerOf (drop at s) ≡ headed (wordAt s at) 5 (wordAt s (at + 3))
+  pub long-form : 5 ≤ length s - at → byteAt s (at + 2) ≡ 0xFF → (wordAt s (at + 3) ≡ 0xFFFF → ⊥)
+      → headerOf (drop at s) ≡ headed (wordAt s at) 5 (wordAt s (at + 3))
   unfolding headerOf longForm
   long-form g e n =
-      rw (length-drop, le-ltb (length s - at) 3 (omega arith), getD-drop at s 2 0, eq-eqb (byteAt s (at + 2)) 0xFF e, le-ltb (length s - at) 5 g, word-drop s at 3, ne-eqb (wordAt s (at + 3)) 0xFFFF n, word-front s at)
+      rw (
+        length-drop,
+        le-ltb (length s - at) 3 (omega arith),
+        getD-drop at s 2 0,
+        eq-eqb (byteAt s (at + 2)) 0xFF e,
+        le-ltb (length s - at) 5 g,
+        word-drop s at 3,
+        ne-eqb (wordAt s (at + 3)) 0xFFFF n,
+        word-front s at,
+      )

@@ -26,13 +26,15 @@ long-within : (o : List ℕ) → Within o (longForm o)
 unfolding longForm
 long-within o =
     by-cond (Within o) (ltb (length o) 5) (λ e. tt)
-    (λ e. by-cond (Within o) (eqb (wordAt o 3) 0xFFFF) (λ f. tt) (λ f. let g : 5 ≤ length o = ltb-false (length o) 5 e in omega arith))
+    (λ e. by-cond (Within o) (eqb (wordAt o 3) 0xFFFF) (λ f. tt)
+    (λ f. let g : 5 ≤ length o = ltb-false (length o) 5 e in omega arith))
 
 pub header-within : (o : List ℕ) → Within o (headerOf o)
 unfolding headerOf
 header-within o =
     by-cond (Within o) (ltb (length o) 3) (λ e. tt)
-    (λ e. by-cond (Within o) (eqb (byteAt o 2) 0xFF) (λ f. long-within o) (λ f. let g : 3 ≤ length o = ltb-false (length o) 3 e in omega arith))
+    (λ e. by-cond (Within o) (eqb (byteAt o 2) 0xFF) (λ f. long-within o)
+    (λ f. let g : 3 ≤ length o = ltb-false (length o) 3 e in omega arith))
 
 pub whole-within : (o : List ℕ) (h : Head) → headerOf o ≡ Whole h → (3 ≤ h .size) × (h .size ≤ length o)
 whole-within o h e = subst (Within o) e (header-within o)
@@ -54,15 +56,18 @@ units-enough (suc f) g [] p q = sym (units-none g)
 units-enough zero g (b ∷ bs) p q = absurd (omega arith)
 units-enough (suc f) zero (b ∷ bs) p q = absurd (omega arith)
 units-enough (suc f) (suc g) (b ∷ bs) p q =
-    units-later f g (b ∷ bs) (headerOf (b ∷ bs)) (header-within (b ∷ bs)) (λ r l. units-enough f g r (omega arith) (omega arith)) (omega arith)
+    units-later f g (b ∷ bs) (headerOf (b ∷ bs)) (header-within (b ∷ bs))
+    (λ r l. units-enough f g r (omega arith) (omega arith)) (omega arith)
 
 -- the units of bytes that are there, by their header
-pub units-at : (fuel : ℕ) (o : List ℕ) → 0 < length o → length o ≤ fuel → unitsIn fuel o ≡ unitsBy (λ r. unitsIn fuel r) (headerOf o) o
+pub units-at : (fuel : ℕ) (o : List ℕ) → 0 < length o → length o ≤ fuel
+    → unitsIn fuel o ≡ unitsBy (λ r. unitsIn fuel r) (headerOf o) o
 unfolding unitsIn
 units-at fuel [] p q = absurd (omega arith)
 units-at zero (b ∷ bs) p q = absurd (omega arith)
 units-at (suc f) (b ∷ bs) p q =
-    units-later f (suc f) (b ∷ bs) (headerOf (b ∷ bs)) (header-within (b ∷ bs)) (λ r l. units-enough f (suc f) r (omega arith) (omega arith)) p
+    units-later f (suc f) (b ∷ bs) (headerOf (b ∷ bs)) (header-within (b ∷ bs))
+    (λ r l. units-enough f (suc f) r (omega arith) (omega arith)) p
 
 -- an unknown tag's value does not span
 pub unknown-whole : (tag r : ℕ) → r ≡ rowOf tag → r ≡ 0 → false ≡ spannable tag

@@ -16,7 +16,7 @@ fn word_at(s: &[u8], at: usize) -> u16
     requires { ⌜ at + 2 ≤ length (now s) ⌝ }
     ensures { λ r. ⌜ r ≡ wordAt (now (s .entry)) at ⌝ }
 {
-    bytes::word(s[at], s[at + 1])
+    memory::word(s[at], s[at + 1])
 }
 
 // The header that the bytes from `at` on begin with.
@@ -31,7 +31,7 @@ pub fn header_at(s: &[u8], at: usize) -> Header
         return Header::Torn;
     }
     let tag = word_at(s, at);
-    let short = bytes::wide(s[at + 2]);
+    let short = memory::wide(s[at + 2]);
     if short != 0xFF {
         return Header::Whole(Head {
             tag: tag,

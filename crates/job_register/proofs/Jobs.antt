@@ -13,14 +13,29 @@ use Rattle.model.specs.declared.Written.{Written}
 use Rattle.model.specs.Stored.{areaSize, recordSize}
 use Rattle.model.specs.Session.{eventsIn}
 use Rattle.model.specs.Order.{Writing}
-use Rattle.cutting.specs.Job.{sessionOf}
+use Rattle.theorem_cutting.specs.Job.{sessionOf}
 use Rattle.job_session.specs.Laid.{sessionWriting, sessionBytes, Lays}
 use Rattle.job_session.proofs.Sessions.{session-length, session-fits, session-few}
 use Rattle.job_register.specs.declared.Entry.{Entry}
-use Rattle.job_register.specs.Jobs.{lineRoom, recordRoom, jobWriting, eventsOf, registerOf, refusedAs, entryOf, textOf, areaOf, Registers, Session, Plays, playedOf}
+use Rattle.job_register.specs.Jobs.{
+  lineRoom,
+  recordRoom,
+  jobWriting,
+  eventsOf,
+  registerOf,
+  refusedAs,
+  entryOf,
+  textOf,
+  areaOf,
+  Registers,
+  Session,
+  Plays,
+  playedOf,
+}
 
 -- a refusal leaves all lent memory as it was
-refusal : (chip room area out : List ℕ) (w : Writing) (n : ℕ) → n ≡ w .number → (n ≡ 0 → ⊥) → Registers chip w room area out (refusedAs n) room area out
+refusal : (chip room area out : List ℕ) (w : Writing) (n : ℕ) → n ≡ w .number → (n ≡ 0 → ⊥)
+    → Registers chip w room area out (refusedAs n) room area out
 unfolding entryOf textOf areaOf sessionBytes
 refusal chip room area out w n e h =
     let m : w .number ≡ 0 → ⊥ = λ z. h (e ∙ z) in
@@ -34,7 +49,8 @@ refusal chip room area out w n e h =
 -- the records have room only where the lines have
 roomy : (records lines k : ℕ) → (2 + k) * recordSize ≤ recordRoom records lines → lineRoom ≤ lines
 roomy records lines k =
-    by-cond (λ n. (2 + k) * recordSize ≤ n → lineRoom ≤ lines) (ltb lines lineRoom) (λ e h. absurd (omega arith)) (λ e h. ltb-false lines lineRoom e)
+    by-cond (λ n. (2 + k) * recordSize ≤ n → lineRoom ≤ lines) (ltb lines lineRoom) (λ e h. absurd (omega arith))
+    (λ e h. ltb-false lines lineRoom e)
 
 pub room-within : (records lines : ℕ) → recordRoom records lines ≤ records
 room-within records lines = by-cond (λ n. n ≤ records) (ltb lines lineRoom) (λ e. omega arith) (λ e. omega arith)
@@ -42,11 +58,13 @@ room-within records lines = by-cond (λ n. n ≤ records) (ltb lines lineRoom) (
 module _ (chip order room area out : List ℕ) where
   -- number 1
   pub no-area : (length area ≡ areaSize → ⊥)
-      → Registers chip (jobWriting chip order (length area) (length room) (length out)) room area out (refusedAs 1) room area out
+      → Registers chip (jobWriting chip order (length area) (length room) (length out)) room area out
+      (refusedAs 1) room area out
   unfolding jobWriting
   no-area h = refusal chip room area out _ 1 (rw (ne-eqb (length area) areaSize h)) (λ z. omega arith)
 
-  module _ (full : length area ≡ areaSize) (n : ℕ) (e : n ≡ recordRoom (length room) (length out)) (r : Written) (p : List ℕ)
+  module _ (full : length area ≡ areaSize) (n : ℕ) (e : n ≡ recordRoom (length room) (length out)) (r : Written)
+      (p : List ℕ)
       (laid : Lays (sessionWriting chip order (length (take n room))) (take n room) r p) where
     within : n ≤ length room
     within = rw e (room-within (length room) (length out))
@@ -58,7 +76,8 @@ module _ (chip order room area out : List ℕ) where
     laid-so : Lays (sessionWriting chip order n) (take n room) r p
     laid-so = rw (length-take-le n room within) at laid
 
-    back-so : length (sessionBytes (sessionWriting chip order n)) ≤ n → p ++ drop n room ≡ overwrite room 0 (sessionBytes (sessionWriting chip order n))
+    back-so : length (sessionBytes (sessionWriting chip order n)) ≤ n
+        → p ++ drop n room ≡ overwrite room 0 (sessionBytes (sessionWriting chip order n))
     back-so h =
         let s = sessionBytes (sessionWriting chip order n) in
         ap (λ (x : List ℕ). x ++ drop n room) (laid-so .room)
@@ -66,13 +85,16 @@ module _ (chip order room area out : List ℕ) where
         ∙ ap (λ (x : List ℕ). overwrite x 0 s) (take-append-drop n room)
 
     pub refused : (r .number ≡ 0 → ⊥)
-        → Registers chip (jobWriting chip order (length area) (length room) (length out)) room area out (refusedAs (r .number)) (p ++ drop n room) area out
+        → Registers chip (jobWriting chip order (length area) (length room) (length out)) room area out
+        (refusedAs (r .number)) (p ++ drop n room) area out
     unfolding sessionBytes
     refused h =
         let m : sessionWriting chip order n .number ≡ 0 → ⊥ = λ z. h (laid-so .number ∙ z) in
-        let none : sessionBytes (sessionWriting chip order n) ≡ [] = rw (ne-eqb (sessionWriting chip order n .number) 0 m) in
+        let none : sessionBytes (sessionWriting chip order n) ≡ [] =
+        rw (ne-eqb (sessionWriting chip order n .number) 0 m) in
         let back : p ++ drop n room ≡ room = back-so (rw none (omega arith)) ∙ rw (none, over-none room 0) in
-        rw (back, writing-so) (refusal chip room area out (sessionWriting chip order n) (r .number) (laid-so .number) h)
+        rw (back, writing-so) (refusal chip room area out (sessionWriting chip order n) (r .number)
+        (laid-so .number) h)
 
     module _ (z : r .number ≡ 0) where
       number-so : sessionWriting chip order n .number ≡ 0
@@ -98,30 +120,36 @@ module _ (chip order room area out : List ℕ) where
       pub fits : (r .count + 2) * recordSize ≤ length (p ++ drop n room)
       fits = let k = fits-so in let l = within in rw (back, length-over) (omega arith)
 
-      session-in : take ((r .count + 2) * recordSize) (p ++ drop n room) ≡ sessionOf (sessionWriting chip order n .records)
+      session-in : take ((r .count + 2) * recordSize) (p ++ drop n room)
+          ≡ sessionOf (sessionWriting chip order n .records)
       session-in =
           let k = fits-so in
           let l = within in
           let m = sized in
-          rw (back, over-zero (sessionOf (sessionWriting chip order n .records)) room (omega arith)) (take-at _ _ _ sized)
+          rw (back, over-zero (sessionOf (sessionWriting chip order n .records)) room (omega arith))
+          (take-at _ _ _ sized)
 
       events-so : eventsIn (sessionOf (sessionWriting chip order n .records)) ≡ eventsOf (sessionWriting chip order n)
       events-so = let s = session-length chip order n number-so in omega arith
 
       pub playable : Session chip (take ((r .count + 2) * recordSize) (p ++ drop n room)) (length area) (length out)
       playable =
-          let k : (2 + r .count) * recordSize ≤ recordRoom (length room) (length out) = let f = fits-so in omega arith in
+          let k : (2 + r .count) * recordSize ≤ recordRoom (length room) (length out) = let f =
+          fits-so in omega arith in
           let l = roomy (length room) (length out) (r .count) k in
           let s = events-so in
           let f = few in
           let c = laid-so .count in
           record { full = full; room = rw session-in (omega arith) }
 
-      pub entered : (x : Entry) (area′ out′ : List ℕ) → Plays chip (take ((r .count + 2) * recordSize) (p ++ drop n room)) out x area′ out′
-          → Registers chip (jobWriting chip order (length area) (length room) (length out)) room area out x (p ++ drop n room) area′ out′
+      pub entered : (x : Entry) (area′ out′ : List ℕ)
+          → Plays chip (take ((r .count + 2) * recordSize) (p ++ drop n room)) out x area′ out′
+          → Registers chip (jobWriting chip order (length area) (length room) (length out)) room area out x
+          (p ++ drop n room) area′ out′
       unfolding entryOf textOf areaOf registerOf playedOf
       entered x area′ out′ y =
-          let q : Plays chip (sessionOf (sessionWriting chip order n .records)) out x area′ out′ = rw session-in at y in
+          let q : Plays chip (sessionOf (sessionWriting chip order n .records)) out x area′ out′ =
+          rw session-in at y in
           rw writing-so
           (record {
             answers = q .answers ∙ rw (eq-eqb (sessionWriting chip order n .number) 0 number-so, events-so);
@@ -130,10 +158,12 @@ module _ (chip order room area out : List ℕ) where
             prints = q .prints ∙ rw (eq-eqb (sessionWriting chip order n .number) 0 number-so, events-so);
           })
 
-      pub entered-few : (x : Entry) (area′ out′ : List ℕ) → Plays chip (take ((r .count + 2) * recordSize) (p ++ drop n room)) out x area′ out′ → x .events ≤ 47
+      pub entered-few : (x : Entry) (area′ out′ : List ℕ)
+          → Plays chip (take ((r .count + 2) * recordSize) (p ++ drop n room)) out x area′ out′ → x .events ≤ 47
       entered-few x area′ out′ y =
           let f = few in
-          let e : x .events ≡ eventsIn (take ((r .count + 2) * recordSize) (p ++ drop n room)) = ap (λ (z : Entry). z .events) (y .answers) in
+          let e : x .events ≡ eventsIn (take ((r .count + 2) * recordSize) (p ++ drop n room)) =
+          ap (λ (z : Entry). z .events) (y .answers) in
           let s = events-so in
           let c = laid-so .count in
           rw (e, session-in) (omega arith)

@@ -17,18 +17,18 @@ use Rattle.model.specs.Session.{turnOf, Run, after, runFrom, Session, runOf, fr
 use Rattle.model.specs.Sound.{sound}
 use Rattle.model.specs.Order.{Writing}
 use Rattle.model.specs.Lines.{lineOf, endOf, replayOf}
-use Rattle.cutting.specs.Job.{jobWith, sessionOf, Taken}
-use Rattle.cutting.proofs.Writes.{write-only, write-taken}
-use Rattle.fresh.proofs.Chips.{form-size}
-use Rattle.events.proofs.Records.{records-more}
-use Rattle.register.specs.Entries.{Register, begun, counted, entry, entries, enteredOf, printed}
-use Rattle.register.proofs.Entries.{entries-append, lines-sized}
-use Rattle.register.proofs.Whole.{replay-prints, replay-ends}
+use Rattle.theorem_cutting.specs.Job.{jobWith, sessionOf, Taken}
+use Rattle.theorem_cutting.proofs.Writes.{write-only, write-taken}
+use Rattle.card_fresh.proofs.Chips.{form-size}
+use Rattle.event_replies.proofs.Records.{records-more}
+use Rattle.register_entries.specs.Entries.{Register, begun, counted, entry, entries, enteredOf, printed}
+use Rattle.register_entries.proofs.Entries.{entries-append, lines-sized}
+use Rattle.register_entries.proofs.Whole.{replay-prints, replay-ends}
 use Rattle.job_session.specs.Laid.{frontSize, sessionWriting}
 use Rattle.job_session.proofs.Sessions.{session-length, session-few}
-use Rattle.whole.specs.Whole.{lineSize, mostEvents, wholeBy, wholeRegister, eventsWhole}
-use Rattle.whole.proofs.Counts.{whole-so, whole-events}
-use Rattle.whole.proofs.Printed.{loadedLine, printed-whole}
+use Rattle.register_whole.specs.Whole.{lineSize, mostEvents, wholeBy, wholeRegister, eventsWhole}
+use Rattle.register_whole.proofs.Counts.{whole-so, whole-events}
+use Rattle.register_whole.proofs.Printed.{loadedLine, printed-whole}
 use Rattle.job_register.specs.Jobs.{recordRoom, jobWriting, eventsOf, registerOf, entryOf, textOf}
 use Rattle.model.proofs.Laws.{length-records}
 
@@ -37,7 +37,8 @@ abbrev runAs : List ℕ → Register → Run
 runAs words g = record { words = words; card = g .card; area = g .area }
 
 -- run and register take the same turns
-run-card : (rs : List (List ℕ)) (words : List ℕ) (g : Register) → entries g rs .card ≡ runFrom (runAs words g) rs .card
+run-card : (rs : List (List ℕ)) (words : List ℕ) (g : Register)
+    → entries g rs .card ≡ runFrom (runAs words g) rs .card
 unfolding entries entry runFrom after
 run-card [] words g = refl
 run-card (r ∷ rs) words g = run-card rs (words ++ (turnOf (g .card) (g .area) r .word ∷ [])) (entry g r)
@@ -61,7 +62,8 @@ abbrev Ran : Run → Session → Type 0
 Ran w x = x .number ≡ 0 → x .run ≡ w
 
 run-so : (c : Card) (a : List ℕ) (room : ℕ) (bytes : List ℕ)
-    → Ran (runFrom (record { words = []; card = c; area = a }) (recordsIn (eventsIn bytes) bytes)) (runOf c a room bytes)
+    → Ran (runFrom (record { words = []; card = c; area = a }) (recordsIn (eventsIn bytes) bytes))
+    (runOf c a room bytes)
 unfolding runOf
 run-so c a room bytes =
     let w = runFrom (record { words = []; card = c; area = a }) (recordsIn (eventsIn bytes) bytes) in
@@ -70,7 +72,8 @@ run-so c a room bytes =
     (λ f. by-cond (Ran w) (not (eqb (length bytes % recordSize) 0)) (λ g z. absurd (omega arith))
     (λ g. by-cond (Ran w) (ltb room (eventsIn bytes)) (λ h z. absurd (omega arith)) (λ h z. refl))))
 
-line-loaded : (n kind number word : ℕ) (c : Card) → word ≡ 0x9000 → c .life .gp ≡ 0x07 → c .loading .running .internal ≡ 0xA5
+line-loaded : (n kind number word : ℕ) (c : Card) → word ≡ 0x9000 → c .life .gp ≡ 0x07
+    → c .loading .running .internal ≡ 0xA5
     → lineOf n kind number word c ≡ loadedLine n kind number (c .loading .running .rows)
 line-loaded n kind number word c e f g = rw (e, f, g)
 
@@ -112,21 +115,24 @@ module _ (k : ℕ) (c : Card) (a b : List ℕ) where
         ap (λ (x : Register). x .lines) one-more ∙ ap (λ (l : List ℕ). g .lines ++ l) line-so in
         let sized : length (g .lines) ≡ (k + 1 - 1) * lineSize = lines-sized 0 c a b [] k ∙ omega arith in
         rw (lines-so, end-so)
-        (printed-whole (k + 1) m (byteAt r 0) (t .number) (t .card .loading .running .rows) (g .lines) (omega arith) few sized)
+        (printed-whole (k + 1) m (byteAt r 0) (t .number) (t .card .loading .running .rows) (g .lines)
+        (omega arith) few sized)
 
 -- OF A SESSION THAT THE WRITER LAYS
 module _ (chip order : List ℕ) (room : ℕ) (z : sessionWriting chip order room .number ≡ 0) where
   form : chipForm chip ≡ true
   form = write-only chip order (room - frontSize) z .form
 
-  events-so : eventsIn (sessionOf (sessionWriting chip order room .records)) ≡ eventsOf (sessionWriting chip order room)
+  events-so : eventsIn (sessionOf (sessionWriting chip order room .records))
+      ≡ eventsOf (sessionWriting chip order room)
   events-so = let s = session-length chip order room z in omega arith
 
   text-so : textOf chip (sessionWriting chip order room) ≡ printed (registerOf chip (sessionWriting chip order room))
   unfolding textOf
   text-so = rw (eq-eqb (sessionWriting chip order room .number) 0 z)
 
-  prints : textOf chip (sessionWriting chip order room) ≡ replayOf (chip ++ sessionOf (sessionWriting chip order room .records))
+  prints : textOf chip (sessionWriting chip order room)
+      ≡ replayOf (chip ++ sessionOf (sessionWriting chip order room .records))
   unfolding registerOf
   prints =
       let s = sessionOf (sessionWriting chip order room .records) in
@@ -144,7 +150,8 @@ module _ (chip order : List ℕ) (room : ℕ) (z : sessionWriting chip order roo
   unfolding ran
   taken = write-taken chip (zeros areaSize) order (room - frontSize) _ z refl (omega arith)
 
-  ran-so : ran .run ≡ runFrom (runAs [] (begun 0 (freshOf chip .card) (zeros areaSize))) (recordsIn (eventsOf (sessionWriting chip order room)) (sessionOf (sessionWriting chip order room .records)))
+  ran-so : ran .run ≡ runFrom (runAs [] (begun 0 (freshOf chip .card) (zeros areaSize)))
+      (recordsIn (eventsOf (sessionWriting chip order room)) (sessionOf (sessionWriting chip order room .records)))
   unfolding ran
   ran-so =
       let s = sessionOf (sessionWriting chip order room .records) in
@@ -163,7 +170,8 @@ module _ (chip order : List ℕ) (room : ℕ) (z : sessionWriting chip order roo
   internal-so : registerOf chip (sessionWriting chip order room) .card .loading .running .internal ≡ 0xA5
   internal-so = ap (λ (x : Card). x .loading .running .internal) card-so ∙ taken .internal
 
-  loaded : (entryOf chip (sessionWriting chip order room) .gp ≡ 0x07) × (entryOf chip (sessionWriting chip order room) .internal ≡ 0xA5)
+  loaded : (entryOf chip (sessionWriting chip order room) .gp ≡ 0x07)
+      × (entryOf chip (sessionWriting chip order room) .internal ≡ 0xA5)
   unfolding entryOf
   loaded =
       let e = eq-eqb (sessionWriting chip order room .number) 0 z in
@@ -190,33 +198,39 @@ job-writing chip order area records lines =
     (not (eqb area areaSize)) (λ e z. absurd (omega arith)) (λ e z. refl)
 
 -- THE THEOREMS: of a job that is not refused, whatever the lent memory
-module _ (chip order : List ℕ) (area records lines : ℕ) (z : jobWriting chip order area records lines .number ≡ 0) where
+module _ (chip order : List ℕ) (area records lines : ℕ)
+    (z : jobWriting chip order area records lines .number ≡ 0) where
   by-session : (P : Writing → Type 0)
-      → (sessionWriting chip order (recordRoom records lines) .number ≡ 0 → P (sessionWriting chip order (recordRoom records lines)))
+      → (sessionWriting chip order (recordRoom records lines) .number ≡ 0
+      → P (sessionWriting chip order (recordRoom records lines)))
       → P (jobWriting chip order area records lines)
   by-session P p =
       let e = job-writing chip order area records lines z in
       subst P (sym e) (p (ap (λ (w : Writing). w .number) (sym e) ∙ z))
 
   -- its register is what `replay` prints of the chip record and the session that `cut` writes
-  pub job-prints : textOf chip (jobWriting chip order area records lines) ≡ replayOf (chip ++ sessionOf (jobWriting chip order area records lines .records))
+  pub job-prints : textOf chip (jobWriting chip order area records lines)
+      ≡ replayOf (chip ++ sessionOf (jobWriting chip order area records lines .records))
   job-prints =
       by-session (λ w. textOf chip w ≡ replayOf (chip ++ sessionOf (w .records)))
       (prints chip order (recordRoom records lines))
 
   -- its card ends loaded
-  pub job-loaded : (entryOf chip (jobWriting chip order area records lines) .gp ≡ 0x07) × (entryOf chip (jobWriting chip order area records lines) .internal ≡ 0xA5)
+  pub job-loaded : (entryOf chip (jobWriting chip order area records lines) .gp ≡ 0x07)
+      × (entryOf chip (jobWriting chip order area records lines) .internal ≡ 0xA5)
   job-loaded =
       by-session (λ w. (entryOf chip w .gp ≡ 0x07) × (entryOf chip w .internal ≡ 0xA5))
       (loaded chip order (recordRoom records lines))
 
   -- its register is whole, and of a loaded card: a lot that is resumed leaves it alone
-  job-whole-by : wholeBy (eventsOf (jobWriting chip order area records lines)) (textOf chip (jobWriting chip order area records lines)) ≡ true
+  job-whole-by : wholeBy (eventsOf (jobWriting chip order area records lines))
+      (textOf chip (jobWriting chip order area records lines)) ≡ true
   job-whole-by =
       by-session (λ w. wholeBy (eventsOf w) (textOf chip w) ≡ true) (whole chip order (recordRoom records lines))
 
   pub job-whole : wholeRegister (textOf chip (jobWriting chip order area records lines)) ≡ true
   job-whole = whole-so _ _ job-whole-by
 
-  pub job-events : eventsWhole (textOf chip (jobWriting chip order area records lines)) ≡ eventsOf (jobWriting chip order area records lines)
+  pub job-events : eventsWhole (textOf chip (jobWriting chip order area records lines))
+      ≡ eventsOf (jobWriting chip order area records lines)
   job-events = whole-events _ _ job-whole-by

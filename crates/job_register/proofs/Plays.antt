@@ -10,8 +10,8 @@ use Rattle.model.specs.declared.Card.{Card}
 use Rattle.model.specs.Stored.{areaSize}
 use Rattle.model.specs.Session.{freshOf, eventsIn}
 use Rattle.model.specs.Lines.{endOf}
-use Rattle.register.specs.Entries.{Register, enteredOf, printed, Enters}
-use Rattle.register.proofs.Entries.{lines-sized}
+use Rattle.register_entries.specs.Entries.{Register, enteredOf, printed, Enters}
+use Rattle.register_entries.proofs.Entries.{lines-sized}
 use Rattle.job_register.specs.declared.Entry.{Entry}
 use Rattle.job_register.specs.Jobs.{enteredAs, playedOf}
 
@@ -23,11 +23,20 @@ pub ends : (chip bytes out lines out′ : List ℕ) (card : Card) (area : List �
 unfolding playedOf
 ends chip bytes out lines out′ card area count x e =
     let g = enteredOf (eventsIn bytes) 0 (freshOf chip .card) (zeros areaSize) bytes in
-    let n : length (g .lines) ≡ eventsIn bytes * 26 = lines-sized 0 (freshOf chip .card) (zeros areaSize) bytes out (eventsIn bytes) in
-    e ∙ rw (x .writes, x .counts) (sym (over-then (g .lines) (endOf (g .count)) out 0 (eventsIn bytes * 26) (zero-add _ ∙ n)))
+    let n : length (g .lines) ≡ eventsIn bytes * 26 =
+    lines-sized 0 (freshOf chip .card) (zeros areaSize) bytes out (eventsIn bytes) in
+    e ∙ rw (x .writes, x .counts)
+    (sym (over-then (g .lines) (endOf (g .count)) out 0 (eventsIn bytes * 26) (zero-add _ ∙ n)))
 
 -- what the answer tells of the card is told of the register's
 pub answered : (n : ℕ) (g : Register) (card : Card) → card ≡ g .card
     → _≡_ {A = Entry}
-    (record { number = 0; events = n; gp = card .life .gp; internal = card .loading .running .internal; serial = card .loading .serial }) (enteredAs n g)
+    (record {
+      number = 0;
+      events = n;
+      gp = card .life .gp;
+      internal = card .loading .running .internal;
+      serial = card
+          .loading .serial;
+    }) (enteredAs n g)
 answered n g card e = rw e

@@ -10,8 +10,8 @@ use Rattle.lists.specs.Over.{overwrite}
 use Rattle.model.specs.Stored.{areaSize}
 use Rattle.model.specs.Session.{freshOf, eventsIn}
 use Rattle.model.specs.Order.{Writing, noWriting}
-use Rattle.cutting.specs.Job.{sessionOf}
-use Rattle.register.specs.Entries.{Register, enteredOf, printed}
+use Rattle.theorem_cutting.specs.Job.{sessionOf}
+use Rattle.register_entries.specs.Entries.{Register, enteredOf, printed}
 use Rattle.job_session.specs.Laid.{sessionWriting, sessionBytes}
 use Rattle.job_register.specs.declared.Entry.{Entry}
 
@@ -23,8 +23,8 @@ lineRoom = 1232
 abbrev pub recordRoom : ℕ → ℕ → ℕ
 recordRoom records lines = cond (ltb lines lineRoom) 0 records
 
--- number 1, and then the writer's; 11 too where the lines lack room. The numbers are the lent memory's lengths: the area's, the
--- records' and the lines'.
+-- number 1, and then the writer's; 11 too where the lines lack room. The numbers are the lent memory's lengths: the
+-- area's, the records' and the lines'.
 unfoldable pub jobWriting : List ℕ → List ℕ → ℕ → ℕ → ℕ → Writing
 jobWriting chip order area records lines =
     cond (not (eqb area areaSize)) (noWriting 1) (sessionWriting chip order (recordRoom records lines))
@@ -42,7 +42,14 @@ refusedAs n = record { number = n; events = 0; gp = 0x00; internal = 0x00; seria
 
 abbrev pub enteredAs : ℕ → Register → Entry
 enteredAs n g =
-    record { number = 0; events = n; gp = g .card .life .gp; internal = g .card .loading .running .internal; serial = g .card .loading .serial }
+    record {
+      number = 0;
+      events = n;
+      gp = g .card .life .gp;
+      internal = g .card .loading .running .internal;
+      serial =
+          g .card .loading .serial;
+    }
 
 unfoldable pub entryOf : List ℕ → Writing → Entry
 entryOf chip w = cond (eqb (w .number) 0) (enteredAs (eventsOf w) (registerOf chip w)) (refusedAs (w .number))
@@ -55,7 +62,8 @@ unfoldable pub areaOf : List ℕ → Writing → List ℕ → List ℕ
 areaOf chip w a = cond (eqb (w .number) 0) (registerOf chip w .area) a
 
 -- the answer and every byte of the lent memory: records, file area, lines
-pub record Registers (chip : List ℕ) (w : Writing) (room area out : List ℕ) (r : Entry) (room′ area′ out′ : List ℕ) : Type 0 where
+pub record Registers (chip : List ℕ) (w : Writing) (room area out : List ℕ) (r : Entry)
+    (room′ area′ out′ : List ℕ) : Type 0 where
   pub answers : r ≡ entryOf chip w
   pub lays : room′ ≡ overwrite room 0 (sessionBytes w)
   pub keeps : area′ ≡ areaOf chip w area

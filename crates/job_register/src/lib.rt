@@ -35,14 +35,15 @@ fn refused_by(number: u8) -> Entry
 // A laid session of so many events, played on the chip's fresh card: its lines, and END.
 fn play(chip: &[u8], records: &[u8], area: &mut [u8], out: &mut [u8]) -> Entry
     requires { ⌜ Session (now chip) (now records) (length (now area)) (length (now out)) ⌝ }
-    ensures { λ r. ⌜ Plays (now (chip .entry)) (now (records .entry)) (now (out .entry)) r (now (area .exit)) (now (out .exit)) ⌝ }
+    ensures { λ r. ⌜ Plays (now (chip .entry)) (now (records .entry)) (now (out .entry)) r (now (area .exit))
+        (now (out .exit)) ⌝ }
 {
-    let made = fresh::fresh(chip);
+    let made = card_fresh::fresh(chip);
     let card = made.card;
-    slices::clear(area);
-    let last = register::enter_all(card, area, records, 0, out);
+    memory::clear(area);
+    let last = register_entries::enter_all(card, area, records, 0, out);
     let events = records.len() / model::RECORD_SIZE;
-    ending::put_end(out, events * model::LINE_SIZE, last.count);
+    register_lines::put_end(out, events * model::LINE_SIZE, last.count);
     let serial = last.card.loading.serial;
     Entry {
         number: 0,
@@ -71,7 +72,10 @@ pub fn enter_job(
     area: &mut [u8],
     out: &mut [u8],
 ) -> Entry
-    ensures { λ r. ⌜ Registers (now (chip .entry)) (jobWriting (now (chip .entry)) (now (order .entry)) (length (now (area .entry))) (length (now (room .entry))) (length (now (out .entry)))) (now (room .entry)) (now (area .entry)) (now (out .entry)) r (now (room .exit)) (now (area .exit)) (now (out .exit)) × (r .events ≤ 47) ⌝ }
+    ensures { λ r. ⌜ Registers (now (chip .entry))
+        (jobWriting (now (chip .entry)) (now (order .entry)) (length (now (area .entry))) (length (now (room .entry)))
+        (length (now (out .entry)))) (now (room .entry)) (now (area .entry)) (now (out .entry)) r (now (room .exit))
+        (now (area .exit)) (now (out .exit)) × (r .events ≤ 47) ⌝ }
 {
     if area.len() != AREA_SIZE {
         return refused_by(1);

@@ -13,14 +13,22 @@ use Rattle.lists.specs.Over.{overwrite, over-none, over-mid, over-part, over-ze
 use Rattle.model.specs.declared.Written.{Written}
 use Rattle.model.specs.Stored.{chipOf, chipForm, recordSize}
 use Rattle.model.specs.Order.{orderLimit, complete, recordsFor, Writing, writeOf}
-use Rattle.cutting.specs.Packs as packs
-use Rattle.cutting.specs.Job.{installRecord, selectRecord, installData, instanceName, jobWith, sessionOf, Accepted}
-use Rattle.cutting.proofs.Stored.{record-length}
-use Rattle.cutting.proofs.Commands.{records-few}
-use Rattle.cutting.proofs.Writes.{write-only, write-all}
-use Rattle.cuts.specs.Cuts.{joined}
-use Rattle.complete.specs.Writes.{Writes}
-use Rattle.writer.proofs.Returns.{records-length, joined-same}
+use Rattle.theorem_cutting.specs.Packs as packs
+use Rattle.theorem_cutting.specs.Job.{
+  installRecord,
+  selectRecord,
+  installData,
+  instanceName,
+  jobWith,
+  sessionOf,
+  Accepted,
+}
+use Rattle.theorem_cutting.proofs.Stored.{record-length}
+use Rattle.theorem_cutting.proofs.Commands.{records-few}
+use Rattle.theorem_cutting.proofs.Writes.{write-only, write-all}
+use Rattle.order_cuts.specs.Cuts.{joined}
+use Rattle.order_complete.specs.Writes.{Writes}
+use Rattle.order_writer.proofs.Returns.{records-length, joined-same}
 use Rattle.job_session.specs.Laid.{frontSize, sessionWriting, sessionBytes, Lays}
 
 pub install-length : length installRecord ≡ recordSize
@@ -63,13 +71,19 @@ behind-front : (x y room : List ℕ) (f : ℕ) → length x ≡ f → length y �
     → overwrite (overwrite room f y) 0 x ≡ overwrite room 0 (x ++ y)
 behind-front x y room f e h g =
     let d : drop f (overwrite room f y) ≡ y ++ drop (f + length y) room =
-    rw (over-part room y f, drop-at (take f room) (overwrite (drop f room) 0 y) f (length-take-le f room g), over-zero y (drop f room) (rw length-drop h), drop-drop (length y) f room) in
+    rw (
+      over-part room y f,
+      drop-at (take f room) (overwrite (drop f room) 0 y) f (length-take-le f room g),
+      over-zero y (drop f room) (rw length-drop h),
+      drop-drop (length y) f room,
+    ) in
     over-zero x (overwrite room f y) (rw length-over (omega arith))
     ∙ rw (e, d, ← append-assoc)
     (sym (over-zero (x ++ y) room (rw length-append (omega arith)) ∙ rw (length-append, e)))
 
 module _ (chip order room : List ℕ) (f : ℕ) (e : f ≡ min frontSize (length room)) (r : Written) (p : List ℕ)
-    (wrote : Writes (writeOf chip order (length (take (length room - f) (drop f room)))) (take (length room - f) (drop f room)) r p) where
+    (wrote : Writes (writeOf chip order (length (take (length room - f) (drop f room))))
+    (take (length room - f) (drop f room)) r p) where
   wrote-so : Writes (writing chip order room) (take (length room - f) (drop f room)) r p
   wrote-so = rw behind-length at wrote
     where
@@ -96,7 +110,8 @@ module _ (chip order room : List ℕ) (f : ℕ) (e : f ≡ min frontSize (length
 
   pub refused-none-written : (r .number ≡ 0 → ⊥) → r .count ≤ 45
   refused-none-written n =
-      let s : writing chip order room .records ≡ [] = refused-none chip order (length room - frontSize) (λ z. n (wrote-so .number ∙ z)) in
+      let s : writing chip order room .records ≡ [] =
+      refused-none chip order (length room - frontSize) (λ z. n (wrote-so .number ∙ z)) in
       rw (wrote-so .count, s) (omega arith)
 
   module _ (z : r .number ≡ 0) where
@@ -108,11 +123,13 @@ module _ (chip order room : List ℕ) (f : ℕ) (e : f ≡ min frontSize (length
 
     joined-fits : length (joined (writing chip order room .records)) ≤ length room - frontSize
     joined-fits =
-        let n : length (joined (recordsFor order)) ≡ length (recordsFor order) * recordSize = records-length (chipOf chip .capacity) order (accepted .complete-so) in
+        let n : length (joined (recordsFor order)) ≡ length (recordsFor order) * recordSize =
+        records-length (chipOf chip .capacity) order (accepted .complete-so) in
         rw (records-so, n) (accepted .room-so)
 
     pub passed-few : r .count ≤ 45
-    passed-few = rw (wrote-so .count, records-so) (records-few (chipOf chip .capacity) order (accepted .complete-so) (accepted .short))
+    passed-few = rw (wrote-so .count, records-so) (records-few (chipOf chip .capacity) order (accepted .complete-so)
+        (accepted .short))
 
     room-fits : frontSize ≤ length room
     unfolding recordsFor
@@ -121,7 +138,8 @@ module _ (chip order room : List ℕ) (f : ℕ) (e : f ≡ min frontSize (length
     pub front-fits : frontSize ≤ length (back f room p)
     front-fits = let j = joined-fits in let g = room-fits in rw (back-laid (omega arith), length-over) g
 
-    pub passed : (after : List ℕ) → after ≡ overwrite (back f room p) 0 (installRecord ++ selectRecord) → Lays (writing chip order room) room r after
+    pub passed : (after : List ℕ) → after ≡ overwrite (back f room p) 0 (installRecord ++ selectRecord)
+        → Lays (writing chip order room) room r after
     unfolding sessionBytes
     passed after l =
         let j = joined-fits in
@@ -147,14 +165,23 @@ module _ (chip order : List ℕ) (room : ℕ) (z : sessionWriting chip order roo
   written-records : sessionWriting chip order room .records ≡ recordsFor order
   written-records = ap (λ (x : Writing). x .records) (write-all chip order (room - frontSize) writes)
 
-  pub session-length : length (sessionOf (sessionWriting chip order room .records)) ≡ (2 + length (sessionWriting chip order room .records)) * recordSize
+  pub session-length : length (sessionOf (sessionWriting chip order room .records))
+      ≡ (2 + length (sessionWriting chip order room .records)) * recordSize
   session-length =
-      let n : length (joined (recordsFor order)) ≡ length (recordsFor order) * recordSize = records-length (chipOf chip .capacity) order (writes .complete-so) in
-      rw (written-records, session-joined (recordsFor order), length-append (installRecord ++ selectRecord) (joined (recordsFor order)), front-length, n) (omega arith)
+      let n : length (joined (recordsFor order)) ≡ length (recordsFor order) * recordSize =
+      records-length (chipOf chip .capacity) order (writes .complete-so) in
+      rw (
+        written-records,
+        session-joined (recordsFor order),
+        length-append (installRecord ++ selectRecord) (joined (recordsFor order)),
+        front-length,
+        n,
+      ) (omega arith)
 
   pub session-fits : (2 + length (sessionWriting chip order room .records)) * recordSize ≤ room
   unfolding recordsFor
   session-fits = let h = writes .room-so in rw written-records (omega arith)
 
   pub session-few : 2 + length (sessionWriting chip order room .records) ≤ 47
-  session-few = let f = records-few (chipOf chip .capacity) order (writes .complete-so) (writes .short) in rw written-records (omega arith)
+  session-few = let f = records-few (chipOf chip .capacity) order (writes .complete-so) (writes .short) in
+      rw written-records (omega arith)

@@ -8,7 +8,7 @@ use lib.ListN.{length}
 use Rattle.lists.specs.Over.{overwrite}
 use Rattle.model.specs.declared.Written.{Written}
 use Rattle.model.specs.Order.{Writing, writeOf}
-use Rattle.cutting.specs.Job.{sessionOf}
+use Rattle.theorem_cutting.specs.Job.{sessionOf}
 
 -- INSTALL and SELECT
 abbrev pub frontSize : ℕ

@@ -6,7 +6,7 @@ ghost use mathlib.Core.List.{_++_};
 ghost use Prim.Native.Nat.{_≤_, min};
 ghost use lib.ListN.{length};
 ghost use Rattle.lists.specs.Over.{overwrite};
-ghost use Rattle.cutting.specs.Job.{installRecord, selectRecord};
+ghost use Rattle.theorem_cutting.specs.Job.{installRecord, selectRecord};
 ghost use Rattle.job_session.specs.Laid.{sessionWriting, Lays};
 
 // How many bytes INSTALL and SELECT take.
@@ -17,7 +17,7 @@ fn install_record() -> [u8; 260]
     ensures { λ r. ⌜ (r ≡ installRecord) × (260 ≡ length r) ⌝ }
 {
     let mut record = [0u8; 260];
-    slices::lay(
+    memory::lay(
         &mut record,
         b"\x01\x0C\x00\x21\x081TIC.PKG\x081TIC.MOD\x081TIC.ICA\x01\x00\x02\xC9\x00\x00",
     );
@@ -28,7 +28,7 @@ fn select_record() -> [u8; 260]
     ensures { λ r. ⌜ (r ≡ selectRecord) × (260 ≡ length r) ⌝ }
 {
     let mut record = [0u8; 260];
-    slices::lay(&mut record, b"\x03\x00\x00\x081TIC.ICA");
+    memory::lay(&mut record, b"\x03\x00\x00\x081TIC.ICA");
     record
 }
 
@@ -38,8 +38,8 @@ fn lay_front(room: &mut [u8])
 {
     let install = install_record();
     let select = select_record();
-    slices::put_bytes(room, 0, &install);
-    slices::put_bytes(room, RECORD_SIZE, &select);
+    memory::put_bytes(room, 0, &install);
+    memory::put_bytes(room, RECORD_SIZE, &select);
 }
 
 // Where the writer's records begin: nowhere in the room where it has none behind the first two.
@@ -54,10 +54,11 @@ fn front_in(size: usize) -> usize
 
 // The session of this chip's job, laid from the room's front; the writer's number, and the count of its records.
 pub fn lay_session(chip: &[u8], order: &[u8], room: &mut [u8]) -> Written
-    ensures { λ r. ⌜ Lays (sessionWriting (now (chip .entry)) (now (order .entry)) (length (now (room .entry)))) (now (room .entry)) r (now (room .exit)) × (r .count ≤ 45) ⌝ }
+    ensures { λ r. ⌜ Lays (sessionWriting (now (chip .entry)) (now (order .entry)) (length (now (room .entry))))
+        (now (room .entry)) r (now (room .exit)) × (r .count ≤ 45) ⌝ }
 {
     let front = front_in(room.len());
-    let written = writer::write(chip, order, &mut room[front..]);
+    let written = order_writer::write(chip, order, &mut room[front..]);
     if written.number != 0 {
         return written;
     }

@@ -75,11 +75,13 @@ unfolding allZero
 zeros-zero zero = refl
 zeros-zero (suc n) = zeros-zero n
 
-pub same-step : (a b : List ℕ) (i : ℕ) → i < length a → i < length b → getD a i 0 ≡ getD b i 0 → same (drop i a) (drop i b) ≡ same (drop (i + 1) a) (drop (i + 1) b)
+pub same-step : (a b : List ℕ) (i : ℕ) → i < length a → i < length b → getD a i 0 ≡ getD b i 0
+    → same (drop i a) (drop i b) ≡ same (drop (i + 1) a) (drop (i + 1) b)
 unfolding same
 same-step a b i h g e = rw (add-one, drop-cons a i 0 h, drop-cons b i 0 g, eq-eqb _ _ e)
 
-pub same-stop : (a b : List ℕ) (i : ℕ) → i < length a → i < length b → (getD a i 0 ≡ getD b i 0 → ⊥) → same (drop i a) (drop i b) ≡ false
+pub same-stop : (a b : List ℕ) (i : ℕ) → i < length a → i < length b → (getD a i 0 ≡ getD b i 0 → ⊥)
+    → same (drop i a) (drop i b) ≡ false
 unfolding same
 same-stop a b i h g n = rw (drop-cons a i 0 h, drop-cons b i 0 g, ne-eqb _ _ n)
 

@@ -10,7 +10,8 @@ use Rattle.lists.specs.Bytes.{part}
 pub drop-least : (m : ℕ) (l : List ℕ) → drop (min m (length l)) l ≡ drop m l
 drop-least zero l = let e : min 0 (length l) ≡ 0 = omega arith in rw e
 drop-least (suc m) [] = let e : min (suc m) 0 ≡ 0 = omega arith in rw e
-drop-least (suc m) (x ∷ l) = let e : min (suc m) (suc (length l)) ≡ suc (min m (length l)) = omega arith in rw e (drop-least m l)
+drop-least (suc m) (x ∷ l) = let e : min (suc m) (suc (length l)) ≡ suc (min m (length l)) =
+    omega arith in rw e (drop-least m l)
 
 pub take-least : (m : ℕ) (l : List ℕ) → take (min m (length l)) l ≡ take m l
 take-least zero l = let e : min 0 (length l) ≡ 0 = omega arith in rw e

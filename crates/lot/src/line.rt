@@ -1,11 +1,12 @@
 // A job's line on standard output: nine fields parted by tabs.
 use job_register::Entry;
-use reasons::Why;
+use reason_why::Why;
 ghost use Prim.Native.Nat.{_≤_};
 ghost use lib.ListN.{length};
-ghost use Rattle.forms.specs.Room.{Behind};
+ghost use Rattle.print_forms.specs.Room.{Behind};
 
-// How a job ended: entered; its register stood and was whole; refused by a number; not done, where a text's fault has a place.
+// How a job ended: entered; its register stood and was whole; refused by a number; not done, where a text's fault has
+// a place.
 pub enum Ending {
     Entered {
         gp: u8,
@@ -53,7 +54,7 @@ fn put_name(line: &mut [u8], at: usize, name: &[u8]) -> usize
     requires { ⌜ at ≤ length (now line) ⌝ }
     ensures { λ r. ⌜ Behind at r (now (line .exit)) ⌝ }
 {
-    let end = forms::put_text(line, at, name);
+    let end = print_forms::put_text(line, at, name);
     clean(line, at, end);
     end
 }
@@ -64,13 +65,13 @@ fn told(line: &mut [u8], at: usize, name: &[u8], form: &[u8], values: &[u64]) ->
     ensures { λ r. ⌜ Behind at r (now (line .exit)) ⌝ }
 {
     let named = put_name(line, at, name);
-    forms::put_form(line, named, form, values)
+    print_forms::put_form(line, named, form, values)
 }
 
 // A serial number's 8 bytes as one number.
 fn serial_of(s: [u8; 8]) -> u64 {
-    let high = bytes::word(s[0], s[1]) as u64 * 0x1_0000 + bytes::word(s[2], s[3]) as u64;
-    let low = bytes::word(s[4], s[5]) as u64 * 0x1_0000 + bytes::word(s[6], s[7]) as u64;
+    let high = memory::word(s[0], s[1]) as u64 * 0x1_0000 + memory::word(s[2], s[3]) as u64;
+    let low = memory::word(s[4], s[5]) as u64 * 0x1_0000 + memory::word(s[6], s[7]) as u64;
     high * 0x1_0000_0000 + low
 }
 
@@ -107,7 +108,7 @@ fn refused(line: &mut [u8], at: usize, name: &[u8], number: u8, why: Why) -> usi
                 &[
                     number as u64,
                     stop.place as u64,
-                    wording::has_tag(cause) as u64,
+                    reason_words::has_tag(cause) as u64,
                     stop.tag as u64,
                     stop.word as u64,
                 ],

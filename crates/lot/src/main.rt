@@ -1,5 +1,5 @@
-// The program `lot`: many jobs in one process. Names of job files on standard input, a register each in a folder, a line a job
-// on standard output, and a last line that counts them.
+// The program `lot`: many jobs in one process. Names of job files on standard input, a register each in a folder, a
+// line a job on standard output, and a last line that counts them.
 mod line;
 mod names;
 mod options;
@@ -18,7 +18,7 @@ use names::none;
 use options::Options;
 use options::read_options;
 use paths::put_path;
-use reasons::Why;
+use reason_why::Why;
 ghost use mathlib.Core.Path.{_≡_};
 ghost use Prim.Native.Nat.{_≤_};
 ghost use lib.ListN.{length};
@@ -52,7 +52,8 @@ fn window_buffer() -> [u8; 4352]
     [0; 4352]
 }
 
-// Lines are gathered while names are at hand. A line has room for the longest name that there is, and the fields behind it.
+// Lines are gathered while names are at hand. A line has room for the longest name that there is, and the fields
+// behind it.
 const LINES_SIZE: usize = 12288;
 
 const LINE_LIMIT: usize = 4480;
@@ -76,12 +77,12 @@ fn events_at(path: &[u8]) -> usize {
         return 0;
     }
     let mut register = register_buffer();
-    let got = edge::read_full(fd, &mut register);
+    let got = io_edge::read_full(fd, &mut register);
     libc::close(fd);
     if got.failed {
         return 0;
     }
-    whole::events_in(&register[..got.count])
+    register_whole::events_in(&register[..got.count])
 }
 
 // An old register of a job that has none now: it would speak of another order. Whether there is none.
@@ -110,7 +111,7 @@ fn written(part: &[u8], path: &[u8], register: &[u8]) -> bool {
         os::fail(part);
         return false;
     }
-    if edge::write_whole(fd, register) {
+    if io_edge::write_whole(fd, register) {
         if libc::close(fd) == 0 {
             if os::rename(part, path) == 0 {
                 return true;
@@ -143,8 +144,8 @@ struct Made {
 fn enter(label: &[u8], job: &[u8], lines: &[u32], out: &mut [u8]) -> Made
     ensures { λ r. ⌜ r .entry .events ≤ 47 ⌝ }
 {
-    let end = intake::chip_end(job);
-    let mut room = intake::record_buffer();
+    let end = io_intake::chip_end(job);
+    let mut room = io_intake::record_buffer();
     let mut area = area_buffer();
     let entry = job_register::enter_job(&job[..end], &job[end..], &mut room, &mut area, out);
     if entry.number == 0 {
@@ -155,7 +156,7 @@ fn enter(label: &[u8], job: &[u8], lines: &[u32], out: &mut [u8]) -> Made
     }
     Made {
         entry: entry,
-        why: intake::say_refused(label, entry.number, job, lines),
+        why: io_intake::say_refused(label, entry.number, job, lines),
     }
 }
 
@@ -204,11 +205,11 @@ fn read(
 fn taken(name: &[u8], folder: &[u8], path: &[u8], job: &mut [u8], lines: &mut [u32]) -> Ending
     requires { ⌜ length (now lines) ≡ length (now job) ⌝ }
 {
-    let mut label = edge::label_buffer();
-    let program = forms::put_text(&mut label, 0, b"lot: ");
-    let labelled = forms::put_text(&mut label, program, name);
-    let taken = intake::take_named(&label[..labelled], name, job, lines);
-    if taken.fault != intake::FINE {
+    let mut label = io_edge::label_buffer();
+    let program = print_forms::put_text(&mut label, 0, b"lot: ");
+    let labelled = print_forms::put_text(&mut label, program, name);
+    let taken = io_intake::take_named(&label[..labelled], name, job, lines);
+    if taken.fault != io_intake::FINE {
         removed(path);
         return Ending::Undone {
             row: taken.line,
@@ -291,13 +292,13 @@ fn sum(a: u64, b: u64) -> u64 {
 fn print_end(t: Tally) {
     let mut line = [0u8; 128];
     let jobs = sum(sum(t.loaded, t.refused), t.undone);
-    let end = forms::put_form(
+    let end = print_forms::put_form(
         &mut line,
         0,
         b"END\t#\t#\t#\t#\n",
         &[jobs, t.loaded, t.refused, t.undone],
     );
-    edge::print(b"lot: standard output", &line[..end]);
+    io_edge::print(b"lot: standard output", &line[..end]);
 }
 
 // Where the lot stands: its counts, the number of the next name, and how many bytes of lines are gathered.
@@ -362,7 +363,7 @@ fn pass_on(out: &[u8], gathered: usize, waits: bool) -> Sent
     }
     Sent {
         gathered: 0,
-        good: edge::print(b"lot: standard output", &out[..gathered]),
+        good: io_edge::print(b"lot: standard output", &out[..gathered]),
     }
 }
 
@@ -381,7 +382,9 @@ fn next_of(
     gathered: usize,
 ) -> Next
     requires { ⌜ (at ≤ filled) × (filled ≤ length (now window)) × (gathered ≤ length (now out)) ⌝ }
-    ensures { λ r. ⌜ (r .name .start ≤ r .name .end) × (r .name .end ≤ r .name .filled) × (r .name .next ≤ r .name .filled) × (r .name .filled ≤ length (now (window .entry))) × (r .gathered ≤ gathered) ⌝ }
+    ensures { λ r. ⌜ (r .name .start ≤ r .name .end) × (r .name .end ≤ r .name .filled)
+        × (r .name .next ≤ r .name .filled) × (r .name .filled ≤ length (now (window .entry)))
+        × (r .gathered ≤ gathered) ⌝ }
 {
     let held = in_window(window, at, filled, separator);
     let sent = pass_on(out, gathered, held.state == names::NONE);
@@ -421,12 +424,12 @@ fn new_lot() -> Lot
     }
 }
 
-// Name after name; what is gathered goes out before more names are waited for. The loop counts its turns down from a number that no
-// run uses up, since nothing says that an input ends.
+// Name after name; what is gathered goes out before more names are waited for. The loop counts its turns down from a
+// number that no run uses up, since nothing says that an input ends.
 fn run(o: Options, folder: &[u8]) {
     let mut window = window_buffer();
-    let mut job = intake::job_buffer();
-    let mut lines = intake::line_buffer();
+    let mut job = io_intake::job_buffer();
+    let mut lines = io_intake::line_buffer();
     let mut out = lines_buffer();
     let separator = separator_of(o);
     let mut lot = new_lot();
@@ -462,7 +465,7 @@ fn run(o: Options, folder: &[u8]) {
 }
 
 fn say_usage() {
-    edge::say(
+    io_edge::say(
         b"lot: ",
         b"usage: lot [-0] [--resume] [--part K/N] OUT, a name of at most 1,024 bytes\n",
     );

@@ -3,7 +3,8 @@ ghost use mathlib.Core.Path.{_≡_};
 ghost use Prim.Native.Nat.{_+_, _≤_, _<_};
 ghost use lib.ListN.{length};
 
-// How a search for the next name ends: with a name, at the input's end, or not at all, which was said; or with none in the window.
+// How a search for the next name ends: with a name, at the input's end, or not at all, which was said; or with none
+// in the window.
 pub const FOUND: u8 = 0;
 
 pub const ENDED: u8 = 1;
@@ -78,9 +79,10 @@ pub fn none(state: u8) -> Name
 // A name that no separator ended: the window is filled behind it, and it is looked for again.
 fn refilled(window: &mut [u8], kept: usize, separator: u8) -> Name
     requires { ⌜ kept ≤ length (now window) ⌝ }
-    ensures { λ r. ⌜ (r .start ≤ r .end) × (r .end ≤ r .filled) × (r .next ≤ r .filled) × (r .filled ≤ length (now (window .entry))) ⌝ }
+    ensures { λ r. ⌜ (r .start ≤ r .end) × (r .end ≤ r .filled) × (r .next ≤ r .filled)
+        × (r .filled ≤ length (now (window .entry))) ⌝ }
 {
-    let got = edge::read_labelled(b"lot: standard input", 0, &mut window[kept..]);
+    let got = io_edge::read_labelled(b"lot: standard input", 0, &mut window[kept..]);
     if got.failed {
         return none(FAILED);
     }
@@ -90,7 +92,7 @@ fn refilled(window: &mut [u8], kept: usize, separator: u8) -> Name
         return found(0, end, end + 1, filled);
     }
     if filled == window.len() {
-        edge::say(b"lot: standard input", b": a name is too long\n");
+        io_edge::say(b"lot: standard input", b": a name is too long\n");
         return none(FAILED);
     }
     if filled == 0 {
@@ -102,7 +104,8 @@ fn refilled(window: &mut [u8], kept: usize, separator: u8) -> Name
 // The next whole name in a window that is filled from `at` to `filled`, if there is one.
 pub fn in_window(window: &[u8], at: usize, filled: usize, separator: u8) -> Name
     requires { ⌜ (at ≤ filled) × (filled ≤ length (now window)) ⌝ }
-    ensures { λ r. ⌜ (r .start ≤ r .end) × (r .end ≤ r .filled) × (r .next ≤ r .filled) × (r .filled ≤ length (now (window .entry))) ⌝ }
+    ensures { λ r. ⌜ (r .start ≤ r .end) × (r .end ≤ r .filled) × (r .next ≤ r .filled)
+        × (r .filled ≤ length (now (window .entry))) ⌝ }
 {
     let end = end_of(window, at, filled, separator);
     if end < filled {
@@ -113,8 +116,10 @@ pub fn in_window(window: &[u8], at: usize, filled: usize, separator: u8) -> Name
 
 // The next name: the one that was found, else one that is read on for.
 pub fn next_name(held: Name, window: &mut [u8], at: usize, filled: usize, separator: u8) -> Name
-    requires { ⌜ (at ≤ filled) × (filled ≤ length (now window)) × (held .start ≤ held .end) × (held .end ≤ held .filled) × (held .next ≤ held .filled) × (held .filled ≤ length (now window)) ⌝ }
-    ensures { λ r. ⌜ (r .start ≤ r .end) × (r .end ≤ r .filled) × (r .next ≤ r .filled) × (r .filled ≤ length (now (window .entry))) ⌝ }
+    requires { ⌜ (at ≤ filled) × (filled ≤ length (now window)) × (held .start ≤ held .end)
+        × (held .end ≤ held .filled) × (held .next ≤ held .filled) × (held .filled ≤ length (now window)) ⌝ }
+    ensures { λ r. ⌜ (r .start ≤ r .end) × (r .end ≤ r .filled) × (r .next ≤ r .filled)
+        × (r .filled ≤ length (now (window .entry))) ⌝ }
 {
     if held.state != NONE {
         return held;

@@ -10,8 +10,8 @@ const ZERO: u8 = 0x30;
 // The digits of a part's number are few enough for it to be small.
 const DIGITS: usize = 6;
 
-// Names end in a zero byte; registers that are whole are left; only names whose number from 0 is `part` modulo `parts`, which is
-// 0 where that was not told right; and where the folder stands among the arguments.
+// Names end in a zero byte; registers that are whole are left; only names whose number from 0 is `part` modulo
+// `parts`, which is 0 where that was not told right; and where the folder stands among the arguments.
 pub struct Options {
     pub zero: bool,
     pub resume: bool,
@@ -87,18 +87,18 @@ fn with_part(o: Options, i: usize) -> Options {
 
 // The options, in this order, and the folder behind them.
 pub fn read_options() -> Options {
-    let zero = edge::is_arg(1, b"-0");
-    let second = edge::behind(1, zero);
-    let resume = edge::is_arg(second, b"--resume");
-    let third = edge::behind(second, resume);
-    let parted = edge::is_arg(third, b"--part");
-    let fourth = edge::behind(third, parted);
+    let zero = io_edge::is_arg(1, b"-0");
+    let second = io_edge::behind(1, zero);
+    let resume = io_edge::is_arg(second, b"--resume");
+    let third = io_edge::behind(second, resume);
+    let parted = io_edge::is_arg(third, b"--part");
+    let fourth = io_edge::behind(third, parted);
     let o = Options {
         zero: zero,
         resume: resume,
         part: 0,
         parts: 1,
-        folder: edge::behind(fourth, parted),
+        folder: io_edge::behind(fourth, parted),
     };
     if parted {
         return with_part(o, fourth);

@@ -63,8 +63,8 @@ pub fn put_path(path: &mut [u8], folder: &[u8], before: &[u8], name: &[u8], afte
 {
     let start = base_start(name);
     let end = base_end(name, start);
-    let inside = forms::put_text(path, 0, folder);
-    let parted = forms::put_text(path, inside, before);
-    let based = forms::put_text(path, parted, &name[start..end]);
-    forms::put_text(path, based, after)
+    let inside = print_forms::put_text(path, 0, folder);
+    let parted = print_forms::put_text(path, inside, before);
+    let based = print_forms::put_text(path, parted, &name[start..end]);
+    print_forms::put_text(path, based, after)
 }

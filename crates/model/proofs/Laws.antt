@@ -16,7 +16,19 @@ use Rattle.model.specs.declared.Verdict.the-variants.{Passes}
 use Rattle.model.specs.Stored.{recordSize, dataRoom, recordOf}
 use Rattle.model.specs.Rows.{due}
 use Rattle.model.specs.Loads.{State}
-use Rattle.model.specs.Rules.{Result, went, asked, failed, aloneAtStart, bit1, bit8, challenged, query, roomIn, lengthOk}
+use Rattle.model.specs.Rules.{
+  Result,
+  went,
+  asked,
+  failed,
+  aloneAtStart,
+  bit1,
+  bit8,
+  challenged,
+  query,
+  roomIn,
+  lengthOk,
+}
 use Rattle.model.specs.Session.{recordsIn}
 use Rattle.model.specs.Order.{unitsIn, cutOf, stored, storedAll, recordsFor}
 
@@ -32,7 +44,8 @@ query-stops n p1 bytes h s =
     by-cond Stops (aloneAtStart n bytes h)
     (λ a. by-cond Stops (bit1 p1 && not (bit8 p1))
     (λ b. by-cond Stops (eqb (h .tag) 0x9484)
-    (λ c. by-cond Stops (eqb (s .load .running .internal) 0xCC && due (s .load .running .rows) (s .load .running .last) 1 0x9484) (λ d. tt) (λ d. tt))
+    (λ c. by-cond Stops (eqb (s .load .running .internal) 0xCC && due (s .load .running .rows)
+    (s .load .running .last) 1 0x9484) (λ d. tt) (λ d. tt))
     (λ c. tt))
     (λ b. tt))
     (λ a. tt)

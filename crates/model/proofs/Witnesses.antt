@@ -1,4 +1,5 @@
--- A witness for each status word of document 01 and for each number 1 to 11, computed: no refusal of the definition is out of reach.
+-- A witness for each status word of document 01 and for each number 1 to 11, computed: no refusal of the definition
+-- is out of reach.
 use Prim.Native.Nat.{ℕ, _+_}
 use mathlib.Core.Bool.{Bool, true, _&&_}
 use mathlib.Core.List.{List, [], _∷_, _++_}
@@ -10,7 +11,33 @@ use Rattle.model.specs.Stored.{areaSize, Event, recordOf}
 use Rattle.model.specs.Session.{freshOf, playOf, runOf, shownOf}
 use Rattle.model.specs.Order.{writeOf}
 use Rattle.model.proofs.Computed.{computed}
-use Rattle.model.proofs.Scenes.{Bytes, chip, blankCard, event, name, selectableData, install, select, command, traceability, status, serial, startup, table, df, ef, linear, begun, asked, loads, loaded, turns, endOf, words, number}
+use Rattle.model.proofs.Scenes.{
+  Bytes,
+  chip,
+  blankCard,
+  event,
+  name,
+  selectableData,
+  install,
+  select,
+  command,
+  traceability,
+  status,
+  serial,
+  startup,
+  table,
+  df,
+  ef,
+  linear,
+  begun,
+  asked,
+  loads,
+  loaded,
+  turns,
+  endOf,
+  words,
+  number,
+}
 
 -- a session that a fresh card of capacity 10 ends with a word, in a pair of states
 pub record Last : Type 0 where
@@ -41,7 +68,8 @@ lasts =
     ∷ last 0x6700 0x87 0x5A (asked (command 0x00 serial ∷ command 0x00 [] ∷ []))
     ∷ last 0x6985 0x07 0xCC (install 0x0C ∷ install 0x0C ∷ [])
     ∷ last 0x6985 0x07 0xA5 (personalized ++ command 0x00 serial ∷ [])
-    ∷ last 0x6985 0x87 0x5A (asked (command 0x00 (loaded (df 0 ++ linear) ++ 0x08 ∷ 0x01 ∷ 0x00 ∷ 0x08 ∷ 0x01 ∷ 0x00 ∷ []) ∷ []))
+    ∷ last 0x6985 0x87 0x5A
+    (asked (command 0x00 (loaded (df 0 ++ linear) ++ 0x08 ∷ 0x01 ∷ 0x00 ∷ 0x08 ∷ 0x01 ∷ 0x00 ∷ []) ∷ []))
     ∷ last 0x6A80 0x00 0xCC (event 1 0x0C selectableData ∷ [])
     ∷ last 0x6A80 0x07 0xCC (begun (command 0x01 (status ++ 0x00 ∷ []) ∷ []))
     ∷ last 0x6A82 0x03 0xCC (install 0x04 ∷ select ∷ [])
@@ -51,7 +79,8 @@ lasts =
     ∷ last 0x6A86 0x07 0xCC (begun (command 0x81 traceability ∷ []))
     ∷ last 0x6A88 0x00 0xCC (event 7 0 [] ∷ [])
     ∷ last 0x6A88 0x87 0x5A (loads (serial ++ startup 10 ++ 0x50 ∷ 0x00 ∷ 0x00 ∷ []))
-    ∷ last 0x6A88 0x87 0x5A (asked (command 0x00 (loaded (df 0 ++ linear)) ∷ command 0x00 (0x08 ∷ 0x04 ∷ 0x00 ∷ []) ∷ []))
+    ∷ last 0x6A88 0x87 0x5A
+    (asked (command 0x00 (loaded (df 0 ++ linear)) ∷ command 0x00 (0x08 ∷ 0x04 ∷ 0x00 ∷ []) ∷ []))
     ∷ last 0x6D00 0x07 0xCC (begun (event 4 0 [] ∷ []))
     ∷ last 0x0000 0x07 0xCC (begun (event 5 0 [] ∷ []))
     ∷ last 0x0000 0x87 0x5A (asked (command 0x00 serial ∷ event 6 0 [] ∷ []))
@@ -63,13 +92,15 @@ unfoldable pub lastsHold : List Last → Bool
 lastsHold [] = true
 lastsHold (x ∷ xs) =
     let t = endOf (turns 10 (x .session)) in
-    eqb (t .number) 0 && eqb (t .word) (x .word) && eqb (t .card .life .gp) (x .gp) && eqb (t .card .loading .running .internal) (x .internal) && lastsHold xs
+    eqb (t .number) 0 && eqb (t .word) (x .word) && eqb (t .card .life .gp) (x .gp) && eqb
+    (t .card .loading .running .internal) (x .internal) && lastsHold xs
 
 pub words-reached : T (lastsHold lasts)
 unfolding computed lasts lastsHold
 words-reached = tt
 
--- the numbers, each with one input that it refuses; a call that has several refuses by the one that is first in its order
+-- the numbers, each with one input that it refuses; a call that has several refuses by the one that is first in its
+-- order
 abbrev pub area : Bytes
 area = zeros areaSize
 
@@ -78,7 +109,12 @@ card = blankCard 10
 
 -- a state that is not sound: selected while absent
 abbrev pub unsound : Card
-unsound = record { chip = card .chip; life = record { gp = 0x00; selected = true; name = card .life .name; namelen = 0 }; loading = card .loading }
+unsound =
+    record {
+      chip = card .chip;
+      life = record { gp = 0x00; selected = true; name = card .life .name; namelen = 0 };
+      loading = card .loading;
+    }
 
 abbrev pub plain : Bytes
 plain = recordOf (install 0x0C)
@@ -130,6 +166,8 @@ numbers =
     ∷ length (writeOf (chip 10) order 520 .records)
     ∷ []
 
-pub numbers-reached : T (same numbers (1 ∷ 2 ∷ 6 ∷ 3 ∷ 4 ∷ 5 ∷ 0 ∷ 1 ∷ 6 ∷ 3 ∷ 11 ∷ 0 ∷ 0 ∷ 2 ∷ 1 ∷ 6 ∷ 8 ∷ 8 ∷ 0 ∷ 29 ∷ 7 ∷ 0 ∷ 7 ∷ 9 ∷ 10 ∷ 11 ∷ 0 ∷ 2 ∷ []))
+pub numbers-reached : T
+    (same numbers (1 ∷ 2 ∷ 6 ∷ 3 ∷ 4 ∷ 5 ∷ 0 ∷ 1 ∷ 6 ∷ 3 ∷ 11 ∷ 0 ∷ 0 ∷ 2 ∷ 1 ∷ 6 ∷ 8 ∷ 8 ∷ 0 ∷ 29 ∷ 7 ∷ 0 ∷ 7 ∷ 9 ∷
+    10 ∷ 11 ∷ 0 ∷ 2 ∷ []))
 unfolding computed numbers
 numbers-reached = tt

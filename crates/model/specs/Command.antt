@@ -26,7 +26,8 @@ isShut (Record tag written missing) = false
 unfoldable pub ready : State → Bool
 ready s = not (mandatoryMissing (s .load .running .rows)) && isShut (s .load .running .pending)
 
--- "After the last grouping, P1 bit 8 asks for the end: a missing mandatory row or open value is '6985' and locks; else 'A5'."
+-- "After the last grouping, P1 bit 8 asks for the end: a missing mandatory row or open value is '6985' and locks;
+-- else 'A5'."
 unfoldable pub theEnd : ℕ → Rule ℕ
 theEnd p1 s = cond (bit8 p1) (cond (ready s) (went 0 (changed (withInternal 0xA5) s)) (failed 0x6985 s)) (went 0 s)
 

@@ -63,7 +63,8 @@ fullFci c =
     ++ 0xA5 ∷ 0x16 ∷ 0xBF ∷ 0x0C ∷ 0x13 ∷ 0xC7 ∷ 0x08 ∷ c .loading .serial
     ++ 0x53 ∷ 0x07 ∷ c .loading .startup
 
--- INSTALL. "Data (GlobalPlatform): package name, module name, instance name, each after its length byte, then fixed bytes."
+-- INSTALL. "Data (GlobalPlatform): package name, module name, instance name, each after its length byte, then fixed
+-- bytes."
 pub record Names : Type 0 where
   pub packageLen : ℕ
   pub moduleLen : ℕ
@@ -76,7 +77,14 @@ namesIn d =
     let p = byteAt d 0 in
     let m = byteAt d (1 + p) in
     let i = byteAt d (2 + p + m) in
-    record { packageLen = p; moduleLen = m; instanceLen = i; name = part d (3 + p + m) i; tail = drop (3 + p + m + i) d }
+    record {
+      packageLen = p;
+      moduleLen = m;
+      instanceLen = i;
+      name = part d (3 + p + m) i;
+      tail = drop
+          (3 + p + m + i) d;
+    }
 
 abbrev pub nameLength : ℕ → Bool
 nameLength n = leb 5 n && leb n 16
@@ -93,10 +101,17 @@ selectableForm n =
     eqb (n .packageLen) 0 && eqb (n .moduleLen) 0 && nameLength (n .instanceLen)
     && same (n .tail) (0x01 ∷ 0x00 ∷ 0x00 ∷ 0x00 ∷ [])
 
--- "'04' and '0C' on a present card '6985'; if absent, the instance name kept, '03' or '07', the area filled with zeros, '9000'."
+-- "'04' and '0C' on a present card '6985'; if absent, the instance name kept, '03' or '07', the area filled with
+-- zeros, '9000'."
 abbrev pub installedAs : ℕ → Names → Card → Card
 installedAs p1 n c =
-    withLife (record { gp = cond (eqb p1 0x04) 0x03 0x07; selected = c .life .selected; name = padded 16 (n .name); namelen = n .instanceLen }) c
+    withLife (record {
+      gp = cond (eqb p1 0x04) 0x03 0x07;
+      selected = c .life .selected;
+      name = padded 16
+          (n .name);
+      namelen = n .instanceLen;
+    }) c
 
 unfoldable pub installing : ℕ → Names → Card → List ℕ → Reply
 installing p1 n c a =
@@ -122,8 +137,8 @@ install p1 d c a =
 unfoldable pub invalidated : Card → Bool
 invalidated c = ltb 0 (c .loading .count) && eqb (getD (c .loading .files) 0 noFile .status) 1
 
--- "SELECT: state not '07' or another name '6A82'; else selected. 'CC': the name FCI .. and '9000'. 'A5': the full FCI, '6283' where
--- the DF is invalidated, else '9000'."
+-- "SELECT: state not '07' or another name '6A82'; else selected. 'CC': the name FCI .. and '9000'. 'A5': the full
+-- FCI, '6283' where the DF is invalidated, else '9000'."
 unfoldable pub select : List ℕ → Card → List ℕ → Reply
 select d c a =
     cond (eqb (c .life .gp) 0x07 && isName c d)
@@ -141,7 +156,8 @@ lock c a =
 unfoldable pub unlock : Card → List ℕ → Reply
 unlock c a =
     cond (absent c) (says 0x6A88 c a)
-    (cond (leb 0x80 (c .life .gp)) (says 0x9000 (withGp (c .life .gp - 0x80) (c .life .selected) c) a) (says 0x6985 c a))
+    (cond (leb 0x80 (c .life .gp)) (says 0x9000 (withGp (c .life .gp - 0x80) (c .life .selected) c) a)
+    (says 0x6985 c a))
 
 -- "DESELECT, RESET: not selected, '0000'."
 unfoldable pub deselect : Card → List ℕ → Reply
@@ -176,8 +192,8 @@ storeData p1 d c a =
     (commanded c (command (c .chip .capacity) p1 d (record { load = c .loading; area = a }))))
     (says 0x6985 c a)
 
--- "In '5A', locked or just locked by such a kind: SELECT of the name gives the name FCI and '6283'; SELECT of another name '6A82';
--- kinds 5 and 6 '0000'; all else '6985'."
+-- "In '5A', locked or just locked by such a kind: SELECT of the name gives the name FCI and '6283'; SELECT of another
+-- name '6A82'; kinds 5 and 6 '0000'; all else '6985'."
 unfoldable pub stuck : Event → Card → List ℕ → Reply
 stuck e c a =
     cond (eqb (e .kind) 3) (cond (isName c (e .bytes)) (gives 0x6283 (nameFci c) c a) (says 0x6A82 c a))

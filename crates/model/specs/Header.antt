@@ -18,4 +18,5 @@ longForm b = cond (ltb (length b) 5) Torn (cond (eqb (wordAt b 3) 0xFFFF) Torn (
 
 -- "Tag 2 bytes; length 1 byte ('00' to 'FE') or 'FF' and 2 bytes": the header that bytes begin with
 unfoldable pub headerOf : List ℕ → Header
-headerOf b = cond (ltb (length b) 3) Torn (cond (eqb (byteAt b 2) 0xFF) (longForm b) (headed (wordAt b 0) 3 (byteAt b 2)))
+headerOf b = cond (ltb (length b) 3) Torn (cond (eqb (byteAt b 2) 0xFF) (longForm b)
+    (headed (wordAt b 0) 3 (byteAt b 2)))

@@ -36,15 +36,16 @@ blank = 0x20
 abbrev pub lineFeed : ℕ
 lineFeed = 0x0A
 
--- "Fields: event number .., kind and refusal number (two decimal digits; a kind byte over 99 as 99), word, GP and internal (hexadecimal
--- capitals), rows taken (two decimal digits), a blank between"
+-- "Fields: event number .., kind and refusal number (two decimal digits; a kind byte over 99 as 99), word, GP and
+-- internal (hexadecimal capitals), rows taken (two decimal digits), a blank between"
 unfoldable pub lineWith : ℕ → ℕ → ℕ → ℕ → ℕ → ℕ → ℕ → List ℕ
 lineWith n kind number word gp internal rows =
     five n ++ blank ∷ two (min kind 99) ++ blank ∷ two number ++ blank ∷ hex4 word
     ++ blank ∷ hex2 gp ++ blank ∷ hex2 internal ++ blank ∷ two (takenOf rows) ++ lineFeed ∷ []
 
 abbrev pub lineOf : ℕ → ℕ → ℕ → ℕ → Card → List ℕ
-lineOf n kind number word c = lineWith n kind number word (c .life .gp) (c .loading .running .internal) (c .loading .running .rows)
+lineOf n kind number word c = lineWith n kind number word (c .life .gp) (c .loading .running .internal)
+    (c .loading .running .rows)
 
 -- "last END and the number of events, in five digits as above"
 unfoldable pub endOf : ℕ → List ℕ
@@ -57,9 +58,11 @@ linesFrom n c a (r ∷ rs) =
     let t = playOf c a answerRoom r in
     lineOf (suc n) (byteAt r 0) (t .number) (t .word) (t .card) ++ linesFrom (suc n) (t .card) (t .area) rs
 
--- "reads a chip record and then event records .. A torn last record is not an event; with a refused chip record only END 00000 is printed."
+-- "reads a chip record and then event records .. A torn last record is not an event; with a refused chip record only
+-- END 00000 is printed."
 unfoldable pub replayOf : List ℕ → List ℕ
 replayOf input =
     cond (chipForm (take chipSize input))
-    (linesFrom 0 (freshCard (chipOf (take chipSize input))) (zeros areaSize) (recordsIn (eventsIn (drop chipSize input)) (drop chipSize input)))
+    (linesFrom 0 (freshCard (chipOf (take chipSize input))) (zeros areaSize)
+    (recordsIn (eventsIn (drop chipSize input)) (drop chipSize input)))
     (endOf 0)

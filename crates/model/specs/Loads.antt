@@ -75,53 +75,30 @@ withFile d l = record {
   secrets = l .secrets;
 }
 
-abbrev pub withSerial : List ℕ → Loading → Loading
-withSerial v l = record {
+-- with other facts and secrets kept
+abbrev withKept : List ℕ → List ℕ → ℕ → List Secret → Loading → Loading
+withKept serial startup counter secrets l = record {
   running = l .running;
   held = l .held;
   files = l .files;
   count = l .count;
-  serial = v;
-  startup = l .startup;
-  counter = l .counter;
-  secrets = l .secrets;
+  serial = serial;
+  startup = startup;
+  counter = counter;
+  secrets = secrets;
 }
+
+abbrev pub withSerial : List ℕ → Loading → Loading
+withSerial v l = withKept v (l .startup) (l .counter) (l .secrets) l
 
 abbrev pub withStartup : List ℕ → Loading → Loading
-withStartup v l = record {
-  running = l .running;
-  held = l .held;
-  files = l .files;
-  count = l .count;
-  serial = l .serial;
-  startup = v;
-  counter = l .counter;
-  secrets = l .secrets;
-}
+withStartup v l = withKept (l .serial) v (l .counter) (l .secrets) l
 
 abbrev pub withCounter : ℕ → Loading → Loading
-withCounter n l = record {
-  running = l .running;
-  held = l .held;
-  files = l .files;
-  count = l .count;
-  serial = l .serial;
-  startup = l .startup;
-  counter = n;
-  secrets = l .secrets;
-}
+withCounter n l = withKept (l .serial) (l .startup) n (l .secrets) l
 
 abbrev pub withSecret : ℕ → Secret → Loading → Loading
-withSecret i x l = record {
-  running = l .running;
-  held = l .held;
-  files = l .files;
-  count = l .count;
-  serial = l .serial;
-  startup = l .startup;
-  counter = l .counter;
-  secrets = set (l .secrets) i x;
-}
+withSecret i x l = withKept (l .serial) (l .startup) (l .counter) (set (l .secrets) i x) l
 
 -- a change of the loading part alone
 abbrev pub changed : (Loading → Loading) → State → State

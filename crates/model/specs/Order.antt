@@ -30,8 +30,9 @@ finished (went n s) = ready s
 finished (asked tag s) = false
 finished (failed w s) = false
 
--- "Complete: after '9484', walked uncut by a to h on this chip, it passes, holds no '8185' or '84F2', and leaves no mandatory row missing
--- and no value open." Behind the three bytes of '9484' no grouping is at data byte 0, so rule b refuses all three tags.
+-- "Complete: after '9484', walked uncut by a to h on this chip, it passes, holds no '8185' or '84F2', and leaves no
+-- mandatory row missing and no value open." Behind the three bytes of '9484' no grouping is at data byte 0, so rule b
+-- refuses all three tags.
 unfoldable pub complete : ℕ → List ℕ → Bool
 complete capacity order = finished (walk (length order) capacity (3 + length order) 0x00 order challengedState)
 
@@ -44,9 +45,11 @@ single [] = []
 single (b ∷ bs) = (b ∷ []) ∷ single bs
 
 abbrev pub groupingUnits : Head → List ℕ → List (List ℕ)
-groupingUnits h o = cond (spannable (h .tag)) (take (h .size) o ∷ single (part o (h .size) (h .len))) (take (h .size + h .len) o ∷ [])
+groupingUnits h o = cond (spannable (h .tag)) (take (h .size) o ∷ single (part o (h .size) (h .len)))
+    (take (h .size + h .len) o ∷ [])
 
--- the units of groupings end to end, as many turns as there are bytes; what is not whole, and stands in no complete order, is one unit
+-- the units of groupings end to end, as many turns as there are bytes; what is not whole, and stands in no complete
+-- order, is one unit
 abbrev pub unitsBy : (List ℕ → List (List ℕ)) → Header → List ℕ → List (List ℕ)
 unitsBy later Torn o = o ∷ []
 unitsBy later (Whole h) o = groupingUnits h o ++ later (drop (h .size + h .len) o)
@@ -59,7 +62,8 @@ unitsIn (suc fuel) (b ∷ bs) = unitsBy (λ o. unitsIn fuel o) (headerOf (b ∷ 
 -- "A command closes only when the next unit doesn't fit in 255": the commands' data, the first of which has cur already
 unfoldable pub packed : List ℕ → List (List ℕ) → List (List ℕ)
 packed cur [] = cur ∷ []
-packed cur (u ∷ us) = elim (leb (length cur + length u) dataRoom) [ true ↦ packed (cur ++ u) us | false ↦ cur ∷ packed u us ]
+packed cur (u ∷ us) = elim (leb (length cur + length u) dataRoom)
+    [ true ↦ packed (cur ++ u) us | false ↦ cur ∷ packed u us ]
 
 unfoldable pub cutOf : List ℕ → List (List ℕ)
 cutOf order = packed [] (unitsIn (length order) order)
@@ -93,8 +97,8 @@ writeOf chip order room =
     (cond (ltb room (length (recordsFor order) * recordSize)) (noWriting 11)
     (record { number = 0; records = recordsFor order }))))
 
--- "one grouping a pull: its tag and its value as a part, tags unjudged. At or past the end, or where a header (rule a) or a value isn't
--- whole, a pull gives nothing, says which of the two, and the place stays."
+-- "one grouping a pull: its tag and its value as a part, tags unjudged. At or past the end, or where a header (rule
+-- a) or a value isn't whole, a pull gives nothing, says which of the two, and the place stays."
 abbrev pub pulledAt : Header → ℕ → ℕ → Pulled
 pulledAt Torn at n = Broken
 pulledAt (Whole h) at n = cond (leb (at + h .size + h .len) n) (Grouping (h .tag) (at + h .size) (h .len)) Broken

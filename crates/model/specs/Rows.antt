@@ -21,17 +21,44 @@ abbrev pub tableRoom : ℕ
 tableRoom = 558
 
 abbrev pub plainRow : ℕ → Bool → ℕ → ℕ → Row
-plainRow tag must least most = record { first = tag; last = tag; mandatory = must; spans = false; least = least; most = most; step = 1 }
+plainRow tag must least most = record {
+  first = tag;
+  last = tag;
+  mandatory = must;
+  spans = false;
+  least = least;
+  most
+      = most;
+  step = 1;
+}
 
 abbrev pub tableRow : Row
-tableRow = record { first = 0x3100; last = 0x3100; mandatory = true; spans = true; least = descriptorSize; most = tableRoom; step = descriptorSize }
+tableRow = record {
+  first = 0x3100;
+  last = 0x3100;
+  mandatory = true;
+  spans = true;
+  least = descriptorSize;
+  most =
+      tableRoom;
+  step = descriptorSize;
+}
 
 -- the record that the tag names bounds the length of 'ssnn' further (rule f)
 abbrev pub recordRow : Row
-recordRow = record { first = 0x0100; last = 0x1EFF; mandatory = false; spans = true; least = 0; most = longest; step = 1 }
+recordRow = record {
+  first = 0x0100;
+  last = 0x1EFF;
+  mandatory = false;
+  spans = true;
+  least = 0;
+  most = longest;
+  step =
+      1;
+}
 
--- "1 '9484'; 2 '2000'; 3 '2100'; 4 '2200' optional; 5 '3100'; 6 '3800'; 7 '4101'; 8 '4102'; 9 '4103'; 10 '4104' optional;
--- 11 'ssnn', '0100' to '1EFF', optional", with the lengths of rule f and the spanning of rule g
+-- "1 '9484'; 2 '2000'; 3 '2100'; 4 '2200' optional; 5 '3100'; 6 '3800'; 7 '4101'; 8 '4102'; 9 '4103'; 10 '4104'
+-- optional; 11 'ssnn', '0100' to '1EFF', optional", with the lengths of rule f and the spanning of rule g
 unfoldable pub rowTable : List Row
 rowTable =
     plainRow 0x9484 true 0 0

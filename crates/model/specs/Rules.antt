@@ -20,12 +20,26 @@ use Rattle.model.specs.declared.Verdict.the-variants.{Passes, Refuses}
 use Rattle.model.specs.Rows.{rowAt, rowOf, due, descriptorSize}
 use Rattle.model.specs.Header.{headerOf}
 use Rattle.model.specs.Table.{descriptorOf, admitOf, spotOf}
-use Rattle.model.specs.Loads.{State, fileList, withInternal, withTaken, withLast, withOpen, withNoneOpen, withFile, withSerial, withStartup, withCounter, withSecret, changed}
+use Rattle.model.specs.Loads.{
+  State,
+  fileList,
+  withInternal,
+  withTaken,
+  withLast,
+  withOpen,
+  withNoneOpen,
+  withFile,
+  withSerial,
+  withStartup,
+  withCounter,
+  withSecret,
+  changed,
+}
 
 infixl 10 _>>=_
 infixl 10 _>>_
--- What a rule comes to: the walk went on, with what the next rule wants to know; a query was asked; or it failed by a word.
--- Each has the state as it then is.
+-- What a rule comes to: the walk went on, with what the next rule wants to know; a query was asked; or it failed by a
+-- word. Each has the state as it then is.
 pub data Result (A : Type 0) : Type 0 where
   went : A → State → Result A
   asked : ℕ → State → Result A
@@ -122,8 +136,8 @@ roomOf files row tag = cond (eqb row 11) (roomIn (tagSpot files tag)) (Passes (r
 unfoldable pub ruleE : ℕ → ℕ → Rule ℕ
 ruleE row tag s = judged (roomOf (fileList (s .load)) row tag) s
 
--- f. "Length, else '6700': '2000' 8; '2100' 7; '2200' 3; '3100' a multiple of 18 from 18 to 558; '3800' and '410n' 1 to 64
--- (ours, opaque); 'ssnn' at most the record (binary: the file)."
+-- f. "Length, else '6700': '2000' 8; '2100' 7; '2200' 3; '3100' a multiple of 18 from 18 to 558; '3800' and '410n' 1
+-- to 64 (ours, opaque); 'ssnn' at most the record (binary: the file)."
 abbrev pub lengthOk : ℕ → ℕ → ℕ → Bool
 lengthOk row room len = leb (rowAt row .least) len && leb len room && eqb (len % rowAt row .step) 0
 
@@ -134,22 +148,24 @@ ruleF row room len = judged (unless (lengthOk row room len) 0x6700)
 unfoldable pub ruleG : ℕ → ℕ → ℕ → Rule ℕ
 ruleG row len left = judged (unless (rowAt row .spans || leb len left) 0x6A80)
 
--- h. "Content."
--- "'2100': first byte 6 to 55 and last two zero, else '6A80'; capacity under 6 '6A84'; the smaller of first byte and capacity is kept."
+-- h. "Content." "'2100': first byte 6 to 55 and last two zero, else '6A80'; capacity under 6 '6A84'; the smaller of
+-- first byte and capacity is kept."
 abbrev pub startupOk : List ℕ → Bool
 startupOk v = leb 6 (byteAt v 0) && leb (byteAt v 0) 55 && eqb (byteAt v 5) 0 && eqb (byteAt v 6) 0
 
 unfoldable pub startup : ℕ → List ℕ → Rule ℕ
 startup capacity v s =
     cond (startupOk v)
-    (cond (ltb capacity 6) (failed 0x6A84 s) (went 0 (changed (withStartup (min (byteAt v 0) capacity ∷ drop 1 v)) s)))
+    (cond (ltb capacity 6) (failed 0x6A84 s)
+    (went 0 (changed (withStartup (min (byteAt v 0) capacity ∷ drop 1 v)) s)))
     (failed 0x6A80 s)
 
 -- "'2200' any, MSB first."
 abbrev pub counterOf : List ℕ → ℕ
 counterOf v = word (word (byteAt v 0) (byteAt v 1)) (byteAt v 2)
 
--- "A passed grouping is kept: serial, startup, counter, or the secret's bytes with their length." Rows 6 to 10 are the secrets.
+-- "A passed grouping is kept: serial, startup, counter, or the secret's bytes with their length." Rows 6 to 10 are
+-- the secrets.
 unfoldable pub kept : ℕ → ℕ → List ℕ → Rule ℕ
 kept capacity row v =
     cond (eqb row 2) (does (changed (withSerial v)))
@@ -202,7 +218,8 @@ recordBytes tag written missing v s =
 abbrev pub feeding : Open → List ℕ → Rule (List ℕ)
 feeding Shut bytes s = went bytes s
 feeding (Table held missing) bytes s = thence (tableBytes (take missing bytes) s) (λ n. went (drop missing bytes))
-feeding (Record tag written missing) bytes s = went (drop missing bytes) (recordBytes tag written missing (take missing bytes) s)
+feeding (Record tag written missing) bytes s = went (drop missing bytes)
+    (recordBytes tag written missing (take missing bytes) s)
 
 unfoldable pub fed : List ℕ → Rule (List ℕ)
 fed bytes s = feeding (s .load .running .pending) bytes s

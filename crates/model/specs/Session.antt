@@ -1,5 +1,5 @@
--- The calls on a card: a fresh card, one event, a session, a shown record; and the "numbers that a call returns", each call's in its
--- written order. "None of them changes lent memory."
+-- The calls on a card: a fresh card, one event, a session, a shown record; and the "numbers that a call returns",
+-- each call's in its written order. "None of them changes lent memory."
 use Prim.Native.Nat.{ℕ, zero, suc, _*_, _/_, _%_}
 use mathlib.Core.Bool.{Bool, true, false, cond, not, _&&_, _||_}
 use mathlib.Core.List.{List, [], _∷_, _++_}
@@ -10,7 +10,18 @@ use Rattle.model.specs.declared.Card.{Card}
 use Rattle.model.specs.declared.Made.{Made}
 use Rattle.model.specs.declared.Spot.{Spot}
 use Rattle.model.specs.declared.Spot.the-variants.{Nowhere, At}
-use Rattle.model.specs.Stored.{chipSize, chipOf, chipForm, freshCard, recordSize, eventIn, isKind, paddedZero, areaSize, answerRoom}
+use Rattle.model.specs.Stored.{
+  chipSize,
+  chipOf,
+  chipForm,
+  freshCard,
+  recordSize,
+  eventIn,
+  isKind,
+  paddedZero,
+  areaSize,
+  answerRoom,
+}
 use Rattle.model.specs.Table.{spotOf}
 use Rattle.model.specs.Loads.{fileList}
 use Rattle.model.specs.Events.{Reply, event}
@@ -93,7 +104,11 @@ runOf c a room bytes =
     (cond (not (sound c)) (noRun 6 c a)
     (cond (not (eqb (length bytes % recordSize) 0)) (noRun 3 c a)
     (cond (ltb room (eventsIn bytes)) (noRun 11 c a)
-    (record { number = 0; run = runFrom (record { words = []; card = c; area = a }) (recordsIn (eventsIn bytes) bytes) }))))
+    (record {
+      number = 0;
+      run = runFrom (record { words = []; card = c; area = a })
+          (recordsIn (eventsIn bytes) bytes);
+    }))))
 
 -- "a file's record, shown as the part of the file area where it is stored (a binary file whole, record 0)"
 pub record Shown : Type 0 where

@@ -48,18 +48,20 @@ tableOpen (Record tag written missing) = false
 
 -- "descriptors only where row 5 is taken, '3100' is open, or the card is locked in '5A'"
 abbrev pub tablePlaced : Loading → ℕ → Bool
-tablePlaced l g = eqb (l .count) 0 || taken (l .running .rows) 5 || tableOpen (l .running .pending) || (eqb (l .running .internal) 0x5A && eqb g 0x87)
+tablePlaced l g = eqb (l .count) 0 || taken (l .running .rows) 5 || tableOpen (l .running .pending) ||
+    (eqb (l .running .internal) 0x5A && eqb g 0x87)
 
 -- "secrets at most 64 bytes"
 unfoldable pub secretsOk : List Secret → Bool
 secretsOk [] = true
 secretsOk (x ∷ xs) = leb (x .len) secretRoom && secretsOk xs
 
--- "either '3100', row 5 not taken (descriptors x 18 + held + missing at most 558 and a multiple of 18, held under 18) or an 'ssnn'
--- that rule e passes, written + missing at most its record"
+-- "either '3100', row 5 not taken (descriptors x 18 + held + missing at most 558 and a multiple of 18, held under 18)
+-- or an 'ssnn' that rule e passes, written + missing at most its record"
 abbrev pub tableFits : ℕ → ℕ → ℕ → Bool
 tableFits count held missing =
-    leb (count * descriptorSize + held + missing) tableRoom && eqb ((count * descriptorSize + held + missing) % descriptorSize) 0
+    leb (count * descriptorSize + held + missing) tableRoom && eqb
+    ((count * descriptorSize + held + missing) % descriptorSize) 0
     && ltb held descriptorSize
 
 abbrev pub recordFits : Spot → ℕ → ℕ → Bool
@@ -85,9 +87,11 @@ openOk (Record tag written missing) g i = eqb g 0x07 && eqb i 0x5A
 
 unfoldable pub soundWith : Life → Loading → Bool
 soundWith f l =
-    gpOk (f .gp) && internalOk (l .running .internal) (f .gp) && nameOk (f .namelen) (f .gp) && selectedOk (f .selected) (f .gp) (l .running .internal)
+    gpOk (f .gp) && internalOk (l .running .internal) (f .gp) && nameOk (f .namelen) (f .gp) && selectedOk
+    (f .selected) (f .gp) (l .running .internal)
     && descriptorsOk l && rowsOk (l .running .rows) (f .gp) && tablePlaced l (f .gp) && secretsOk (l .secrets)
-    && openOk (l .running .pending) (f .gp) (l .running .internal) && pendingFits (l .running .pending) l && someMissing (l .running .pending)
+    && openOk (l .running .pending) (f .gp) (l .running .internal) && pendingFits
+    (l .running .pending) l && someMissing (l .running .pending)
 
 abbrev pub sound : Card → Bool
 sound c = soundWith (c .life) (c .loading)

@@ -14,12 +14,19 @@ use Rattle.model.specs.declared.Life.{Life}
 use Rattle.model.specs.declared.Loading.{Loading}
 use Rattle.model.specs.declared.Card.{Card}
 
--- "Chip record, 40 bytes: application reference 4, challenge 16, traceability 16 (ours: opaque), session capacity 1, three zero bytes."
+-- "Chip record, 40 bytes: application reference 4, challenge 16, traceability 16 (ours: opaque), session capacity 1,
+-- three zero bytes."
 abbrev pub chipSize : ℕ
 chipSize = 40
 
 unfoldable pub chipOf : List ℕ → Chip
-chipOf b = record { reference = part b 0 4; challenge = part b 4 16; traceability = part b 20 16; capacity = byteAt b 36 }
+chipOf b = record {
+  reference = part b 0 4;
+  challenge = part b 4 16;
+  traceability = part b 20 16;
+  capacity = byteAt b
+      36;
+}
 
 -- a record that number 7 does not refuse
 unfoldable pub chipForm : List ℕ → Bool

@@ -75,7 +75,8 @@ sizeOf d =
     (cond (eqb (d .eftype) simulated) 0 (d .recsize * d .numrec))
 
 abbrev pub sizesOk : Descriptor → Bool
-sizesOk d = cond (eqb (d .eftype) binary) (leb 1 (256 * d .recsize + d .numrec)) (leb 1 (d .recsize) && leb 1 (d .numrec))
+sizesOk d = cond (eqb (d .eftype) binary) (leb 1 (256 * d .recsize + d .numrec))
+    (leb 1 (d .recsize) && leb 1 (d .numrec))
 
 -- "DataRef is the nonzero SFI of an earlier '09' and a number 1 to that file's RecSize / 3 rounded down."
 abbrev pub counterIn : Descriptor → Descriptor → Bool
@@ -100,7 +101,8 @@ efOk d before =
 -- every rule of the table for a descriptor that comes after others, but for the total
 unfoldable pub rulesOk : Descriptor → List Descriptor → Bool
 rulesOk d before =
-    ltb (length before) tableLimit && accessesOk (d .ac) (d .nkey) && cond (eqb (length before) 0) (dfOk d) (efOk d before)
+    ltb (length before) tableLimit && accessesOk (d .ac) (d .nkey) && cond (eqb (length before) 0) (dfOk d)
+    (efOk d before)
 
 unfoldable pub total : List Descriptor → ℕ
 total [] = 0
@@ -108,7 +110,8 @@ total (d ∷ ds) = sizeOf d + total ds
 
 -- "Broken rule '6A80'; then a size total over 4,096 '6A84'."
 unfoldable pub admitOf : Descriptor → List Descriptor → Verdict
-admitOf d before = cond (rulesOk d before) (cond (leb (total before + sizeOf d) areaSize) (Passes 0) (Refuses 0x6A84)) (Refuses 0x6A80)
+admitOf d before = cond (rulesOk d before) (cond (leb (total before + sizeOf d) areaSize) (Passes 0) (Refuses 0x6A84))
+    (Refuses 0x6A80)
 
 abbrev pub passed : Verdict → Bool
 passed (Passes n) = true
@@ -129,7 +132,8 @@ spotIn d base nn =
 
 unfoldable pub spotFrom : List Descriptor → ℕ → ℕ → ℕ → Spot
 spotFrom [] base sfi nn = Nowhere
-spotFrom (d ∷ ds) base sfi nn = let later = spotFrom ds (base + sizeOf d) sfi nn in cond (eqb (d .sfi) sfi) (spotIn d base nn) later
+spotFrom (d ∷ ds) base sfi nn = let later = spotFrom ds (base + sizeOf d) sfi nn in
+    cond (eqb (d .sfi) sfi) (spotIn d base nn) later
 
 -- the place of record nn of the file with a nonzero SFI
 unfoldable pub spotOf : List Descriptor → ℕ → ℕ → Spot

@@ -1,8 +1,8 @@
-// What document 01 speaks of, as types and sizes: the chip, the card in its three parts, a header, and the answers of the
-// calls. All that it says of them is in specs/; there is no logic here.
+// What document 01 speaks of, as types and sizes: the chip, the card in its three parts, a header, and the answers of
+// the calls. All that it says of them is in specs/; there is no logic here.
 
-// Stored forms: a chip record, its session capacity's place; an event record, its data's place; the file area; the least
-// answer buffer; the longest order.
+// Stored forms: a chip record, its session capacity's place; an event record, its data's place; the file area; the
+// least answer buffer; the longest order.
 pub const CHIP_SIZE: usize = 40;
 
 pub const CAPACITY: usize = 36;

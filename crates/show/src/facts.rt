@@ -48,7 +48,7 @@ fn characters(name: [u8; 16]) -> [u8; 16] {
 
 // The name as text, and in hexadecimal.
 fn write_name(good: &mut bool, name: [u8; 16], n: usize) {
-    let k = bytes::least(n, NAME_LIMIT);
+    let k = memory::least(n, NAME_LIMIT);
     if k == 0 {
         write(good, b"Card\n  name            none");
         return;
@@ -136,7 +136,7 @@ fn write_progress(good: &mut bool, counter: u32, rows: u16, pending: Open) {
             gap.missing as u64,
         ],
     );
-    write_form(good, b"\n\nRows taken: #", &[sets::count(rows) as u64]);
+    write_form(good, b"\n\nRows taken: #", &[row_sets::count(rows) as u64]);
 }
 
 // What row r is, with the last tag of a record; of row 0 nothing.
@@ -155,7 +155,7 @@ fn write_row(good: &mut bool, r: u8, last: u16) {
 fn if_taken(rows: u16, r: u8) -> u8
     requires { ⌜ (1 ≤ r) × (r ≤ 11) ⌝ }
 {
-    if sets::is_taken(rows, r as usize) {
+    if row_sets::is_taken(rows, r as usize) {
         return r;
     }
     0

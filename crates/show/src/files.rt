@@ -44,7 +44,7 @@ fn write_accesses(good: &mut bool, ac: [u8; 4], nkey: [u8; 4]) {
 // The type, with a binary file's size, or the number and size of the records.
 fn write_sizes(good: &mut bool, d: Descriptor) {
     if d.eftype == BINARY {
-        let size = sizes::size_of(d);
+        let size = table_fields::size_of(d);
         write_form(good, b", binary file, # byte~", &[size as u64]);
         return;
     }
@@ -99,7 +99,7 @@ fn write_data_ref(good: &mut bool, sfi: u8, number: u8) {
 // Where a record begins in the file area.
 fn place_of(l: Loading, sfi: u8, nn: u8) -> usize {
     let files = l.files;
-    let spot = places::spot_of(files, bytes::least(l.count, TABLE_LIMIT), sfi, nn);
+    let spot = table_places::spot_of(files, memory::least(l.count, TABLE_LIMIT), sfi, nn);
     match spot {
         Spot::At { base, size: _ } => base,
         Spot::Nowhere => 0,
@@ -118,7 +118,7 @@ fn write_dump(good: &mut bool, bytes: &[u8]) {
 // A record: its place, and the bytes that `shown` gives.
 fn write_record(good: &mut bool, c: Card, area: &[u8], sfi: u8, nn: u8) {
     let mut number: u8 = 0;
-    let bytes = showing::shown(c, area, sfi, nn, &mut number);
+    let bytes = call_shown::shown(c, area, sfi, nn, &mut number);
     if number != 0 {
         write_form(good, b"    record # cannot be shown\n", &[nn as u64]);
         return;
@@ -180,7 +180,7 @@ fn write_files(good: &mut bool, c: Card, area: &[u8], count: usize)
 }
 
 pub fn write_table(good: &mut bool, c: Card, area: &[u8]) {
-    let n = bytes::least(c.loading.count, TABLE_LIMIT);
+    let n = memory::least(c.loading.count, TABLE_LIMIT);
     let is_there = n != 0;
     write_form(
         good,

@@ -12,22 +12,22 @@ fn line_buffer() -> [u8; 512]
 
 // `good` says that all went out so far. Where a write fails, nothing is written behind it.
 pub fn write(good: &mut bool, text: &[u8]) {
-    edge::print_on(good, b"show: standard output", text);
+    io_edge::print_on(good, b"show: standard output", text);
 }
 
 // A form that comes to fewer than 492 characters.
 pub fn write_form(good: &mut bool, form: &[u8], values: &[u64]) {
     let mut line = line_buffer();
-    let n = forms::put_form(&mut line, 0, form, values);
+    let n = print_forms::put_form(&mut line, 0, form, values);
     write(good, &line[..n]);
 }
 
 // Bytes in hexadecimal between two texts: as many as a line has, or fewer where there are fewer.
 pub fn write_hex(good: &mut bool, before: &[u8], bytes: &[u8], after: &[u8]) {
     let mut line = line_buffer();
-    let n = bytes::least(bytes.len(), HEX_LINE);
-    let first = forms::put_text(&mut line, 0, before);
-    let second = forms::put_hex(&mut line, first, &bytes[..n]);
-    let end = forms::put_text(&mut line, second, after);
+    let n = memory::least(bytes.len(), HEX_LINE);
+    let first = print_forms::put_text(&mut line, 0, before);
+    let second = print_forms::put_hex(&mut line, first, &bytes[..n]);
+    let end = print_forms::put_text(&mut line, second, after);
     write(good, &line[..end]);
 }

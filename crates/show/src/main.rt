@@ -7,8 +7,8 @@ use facts::write_facts;
 use files::write_table;
 
 fn show(fd: i32, label: &[u8]) -> u8 {
-    let mut area = playing::clear_area();
-    let outcome = playing::play(label, fd, &mut area, b"");
+    let mut area = io_playing::clear_area();
+    let outcome = io_playing::play(label, fd, &mut area, b"");
     if !outcome.ended {
         return outcome.status;
     }
@@ -19,17 +19,17 @@ fn show(fd: i32, label: &[u8]) -> u8 {
     if good {
         return outcome.status;
     }
-    edge::NOT_DONE
+    io_edge::NOT_DONE
 }
 
 fn main() {
-    let mut label = edge::label_buffer();
-    let tells = edge::is_arg(1, b"--tell");
-    let source = edge::open_last(b"show: ", edge::behind(1, tells), &mut label);
+    let mut label = io_edge::label_buffer();
+    let tells = io_edge::is_arg(1, b"--tell");
+    let source = io_edge::open_last(b"show: ", io_edge::behind(1, tells), &mut label);
     if source.fd < 0 {
-        edge::tell(tells, edge::NOT_DONE);
+        io_edge::tell(tells, io_edge::NOT_DONE);
         return;
     }
     let status = show(source.fd, &label[..source.labelled]);
-    edge::tell(tells, status);
+    io_edge::tell(tells, status);
 }

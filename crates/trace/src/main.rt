@@ -1,5 +1,6 @@
 // The program `trace [--tell] [FILE]`: what `replay` reads, and of each event the whole state on a line. The tests
 // compare it character by character with the second program's.
+use io_remarks::Noted;
 use model::Card;
 use model::DESCRIPTOR_SIZE;
 use model::Descriptor;
@@ -10,14 +11,13 @@ use model::Played;
 use model::RECORD_SIZE;
 use model::Secret;
 use model::TABLE_LIMIT;
-use remarks::Noted;
 ghost use mathlib.Core.Path.{_≡_};
 ghost use Prim.Native.Nat.{_≤_};
 ghost use lib.ListN.{length};
-ghost use Rattle.forms.specs.Room.{Behind};
+ghost use Rattle.print_forms.specs.Room.{Behind};
 ghost use Rattle.lists.specs.Bytes.{zeros};
 ghost use Rattle.model.specs.Stored.{areaSize};
-ghost use Rattle.soundness.specs.Keeps.{Good};
+ghost use Rattle.theorem_sound.specs.Keeps.{Good};
 
 // 24 records. No event's line is longer than 2,600 characters, and the buffer for lines has room for as many.
 const BLOCK_SIZE: usize = 6240;
@@ -34,11 +34,11 @@ fn put_front(out: &mut [u8], at: usize, bytes: &[u8], n: usize) -> usize
     ensures { λ r. ⌜ Behind at r (now (out .exit)) ⌝ }
 {
     if n == 0 {
-        return forms::put_text(out, at, b" -");
+        return print_forms::put_text(out, at, b" -");
     }
-    let k = bytes::least(n, bytes.len());
-    let to = forms::put_text(out, at, b" ");
-    forms::put_hex(out, to, &bytes[..k])
+    let k = memory::least(n, bytes.len());
+    let to = print_forms::put_text(out, at, b" ");
+    print_forms::put_hex(out, to, &bytes[..k])
 }
 
 // The secrets of '3800' and '4101' to '4104'.
@@ -64,12 +64,12 @@ fn put_facts(out: &mut [u8], at: usize, l: Loading) -> usize
     let secrets = l.secrets;
     let first = put_front(out, at, &l.serial, 8);
     let second = put_front(out, first, &l.startup, 7);
-    let third = forms::put_form(out, second, b" #", &[l.counter as u64]);
+    let third = print_forms::put_form(out, second, b" #", &[l.counter as u64]);
     put_secrets(out, third, secrets)
 }
 
 // A descriptor as it is stored.
-fn stored(d: Descriptor) -> [u8; 18]
+fn stored_descriptor(d: Descriptor) -> [u8; 18]
     ensures { λ r. ⌜ 18 ≡ length r ⌝ }
 {
     let ac = d.ac;
@@ -105,8 +105,8 @@ fn stored_table(files: [Descriptor; 31], count: usize) -> [u8; 558]
     let mut i: usize = 0;
     while i < count {
         let d = files[i];
-        let bytes = stored(d);
-        slices::put_bytes(&mut table, DESCRIPTOR_SIZE * i, &bytes);
+        let bytes = stored_descriptor(d);
+        memory::put_bytes(&mut table, DESCRIPTOR_SIZE * i, &bytes);
         i += 1;
     }
     table
@@ -117,9 +117,9 @@ fn put_table(out: &mut [u8], at: usize, files: [Descriptor; 31], count: usize) -
     requires { ⌜ at ≤ length (now out) ⌝ }
     ensures { λ r. ⌜ Behind at r (now (out .exit)) ⌝ }
 {
-    let n = bytes::least(count, TABLE_LIMIT);
+    let n = memory::least(count, TABLE_LIMIT);
     let table = stored_table(files, n);
-    let to = forms::put_form(out, at, b" #", &[count as u64]);
+    let to = print_forms::put_form(out, at, b" #", &[count as u64]);
     put_front(out, to, &table, DESCRIPTOR_SIZE * n)
 }
 
@@ -168,7 +168,7 @@ fn put_open(out: &mut [u8], at: usize, pending: Open, held: [u8; 18]) -> usize
     ensures { λ r. ⌜ Behind at r (now (out .exit)) ⌝ }
 {
     let s = span_of(pending);
-    let to = forms::put_form(
+    let to = print_forms::put_form(
         out,
         at,
         b" %{\x00-|\x01&:#:#|}",
@@ -188,9 +188,9 @@ fn put_life(out: &mut [u8], at: usize, life: Life, internal: u8, rows: u16) -> u
     ensures { λ r. ⌜ Behind at r (now (out .exit)) ⌝ }
 {
     let states = [life.gp as u64, internal as u64, life.selected as u64];
-    let first = forms::put_form(out, at, b" $ $ #", &states);
+    let first = print_forms::put_form(out, at, b" $ $ #", &states);
     let second = put_front(out, first, &life.name, life.namelen);
-    forms::put_form(out, second, b" &", &[rows as u64])
+    print_forms::put_form(out, second, b" &", &[rows as u64])
 }
 
 // What the event said, the line's start: refusal number, word, the card's life, rows, answer.
@@ -200,7 +200,7 @@ fn put_event(out: &mut [u8], at: usize, p: Played, answer: &[u8]) -> usize
 {
     let life = p.card.life;
     let running = p.card.loading.running;
-    let first = forms::put_form(out, at, b"# &", &[p.number as u64, p.word as u64]);
+    let first = print_forms::put_form(out, at, b"# &", &[p.number as u64, p.word as u64]);
     let second = put_life(out, first, life, running.internal, running.rows);
     put_front(out, second, answer, p.answered)
 }
@@ -224,10 +224,10 @@ fn put_line(out: &mut [u8], at: usize, p: Played, answer: &[u8], area: &[u8]) ->
     requires { ⌜ (at ≤ length (now out)) × (length (now area) ≡ 4096) ⌝ }
     ensures { λ r. ⌜ Behind at r (now (out .exit)) ⌝ }
 {
-    let sum = playing::place_sum(area) as u64;
+    let sum = io_playing::place_sum(area) as u64;
     let first = put_event(out, at, p, answer);
     let second = put_loading(out, first, p.card.loading);
-    forms::put_form(out, second, b" &&\n", &[sum / 65536, sum])
+    print_forms::put_form(out, second, b" &&\n", &[sum / 65536, sum])
 }
 
 // The card after a record, the place behind its line, and whether it was refused.
@@ -243,7 +243,7 @@ fn trace_one(c: Card, area: &mut [u8], r: &[u8], out: &mut [u8], at: usize) -> T
     ensures { λ x. ⌜ Good areaSize (x .card) (now (area .exit)) × Behind at (x .end) (now (out .exit)) ⌝ }
 {
     let mut answer = [0u8; 64];
-    let p = turns::turn(c, area, &mut answer, r);
+    let p = event_turn::turn(c, area, &mut answer, r);
     let card = p.card;
     Traced {
         card: card,
@@ -280,7 +280,7 @@ fn trace_all(
         let t = trace_one(c, area, r, out, end);
         c = t.card;
         end = t.end;
-        noted = remarks::note(label, r, t.refused, noted);
+        noted = io_remarks::note(label, r, t.refused, noted);
         i += 1;
     }
     Lines {
@@ -290,8 +290,8 @@ fn trace_all(
     }
 }
 
-// How far a session is traced: the card, what was noted; how many bytes are behind the last whole record; whether to go on, and
-// whether a read or a write failed, which was said.
+// How far a session is traced: the card, what was noted; how many bytes are behind the last whole record; whether to
+// go on, and whether a read or a write failed, which was said.
 struct Stand {
     pub card: Card,
     pub noted: Noted,
@@ -315,7 +315,7 @@ fn trace_records(s: Stand, area: &mut [u8], records: &[u8], label: &[u8]) -> Sta
     let noted = s.noted;
     let mut out = line_buffer();
     let lines = trace_all(before, area, records, label, noted, &mut out);
-    let printed = edge::print(b"trace: standard output", &out[..lines.end]);
+    let printed = io_edge::print(b"trace: standard output", &out[..lines.end]);
     let card = lines.card;
     let so_far = lines.noted;
     Stand {
@@ -339,7 +339,7 @@ fn trace_block(s: Stand, area: &mut [u8], fd: i32, label: &[u8]) -> Stand
     ensures { λ r. ⌜ Good areaSize (r .card) (now (area .exit)) ⌝ }
 {
     let mut block = block_buffer();
-    let got = edge::read_labelled(label, fd, &mut block);
+    let got = io_edge::read_labelled(label, fd, &mut block);
     if got.failed {
         let card = s.card;
         let noted = s.noted;
@@ -357,10 +357,10 @@ fn trace_block(s: Stand, area: &mut [u8], fd: i32, label: &[u8]) -> Stand
 // The session's end.
 fn status_after(label: &[u8], s: Stand) -> u8 {
     if s.going || s.failed {
-        return edge::NOT_DONE;
+        return io_edge::NOT_DONE;
     }
     let noted = s.noted;
-    edge::status_of(remarks::note_end(label, noted, s.left))
+    io_edge::status_of(io_remarks::note_end(label, noted, s.left))
 }
 
 // Block after block to the end of the input. The loop counts its turns down from a number that no run uses up, since
@@ -387,7 +387,7 @@ fn trace_blocks(c: Card, area: &mut [u8], fd: i32, label: &[u8]) -> u8
         }
         turns -= 1;
     }
-    edge::NOT_DONE
+    io_edge::NOT_DONE
 }
 
 fn area_buffer() -> [u8; 8220]
@@ -399,48 +399,48 @@ fn area_buffer() -> [u8; 8220]
 // The last line: AREA and its bytes. The status then.
 fn print_area(area: &[u8], status: u8) -> u8 {
     let mut line = area_buffer();
-    let named = forms::put_text(&mut line, 0, b"AREA ");
-    let shown = forms::put_hex(&mut line, named, area);
-    let end = forms::put_text(&mut line, shown, b"\n");
-    if edge::print(b"trace: standard output", &line[..end]) {
+    let named = print_forms::put_text(&mut line, 0, b"AREA ");
+    let shown = print_forms::put_hex(&mut line, named, area);
+    let end = print_forms::put_text(&mut line, shown, b"\n");
+    if io_edge::print(b"trace: standard output", &line[..end]) {
         return status;
     }
-    edge::NOT_DONE
+    io_edge::NOT_DONE
 }
 
 // The events of the card that the chip record gives, and the area after them.
 fn trace_card(c: Card, fd: i32, label: &[u8]) -> u8
     requires { ⌜ Good areaSize c (zeros areaSize) ⌝ }
 {
-    let mut area = playing::clear_area();
+    let mut area = io_playing::clear_area();
     let status = trace_blocks(c, &mut area, fd, label);
-    if status == edge::NOT_DONE {
+    if status == io_edge::NOT_DONE {
         return status;
     }
     print_area(&area, status)
 }
 
 fn trace(fd: i32, label: &[u8]) -> u8 {
-    let begun = playing::begin(label, fd);
-    if begun.status == edge::DONE {
+    let begun = io_playing::begin(label, fd);
+    if begun.status == io_edge::DONE {
         return trace_card(begun.card, fd, label);
     }
-    if begun.status == edge::REFUSED {
-        if edge::print(b"trace: standard output", b"REFUSED 07\n") {
-            return edge::REFUSED;
+    if begun.status == io_edge::REFUSED {
+        if io_edge::print(b"trace: standard output", b"REFUSED 07\n") {
+            return io_edge::REFUSED;
         }
     }
-    edge::NOT_DONE
+    io_edge::NOT_DONE
 }
 
 fn main() {
-    let mut label = edge::label_buffer();
-    let tells = edge::is_arg(1, b"--tell");
-    let source = edge::open_last(b"trace: ", edge::behind(1, tells), &mut label);
+    let mut label = io_edge::label_buffer();
+    let tells = io_edge::is_arg(1, b"--tell");
+    let source = io_edge::open_last(b"trace: ", io_edge::behind(1, tells), &mut label);
     if source.fd < 0 {
-        edge::tell(tells, edge::NOT_DONE);
+        io_edge::tell(tells, io_edge::NOT_DONE);
         return;
     }
     let status = trace(source.fd, &label[..source.labelled]);
-    edge::tell(tells, status);
+    io_edge::tell(tells, status);
 }

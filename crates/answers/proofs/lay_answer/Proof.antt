@@ -1,3 +1,5 @@
+-- `answers::lay_answer`: a return for each answer of `answerTo`, by the tag; the reference has 4 bytes, so that
+-- the challenge at 4 stands right behind it (`reference-laid`).
 use mathlib.Core.Path.{_≡_, refl, sym}
 use native.Mathlib.Omega.{arith}
 use lib.ListN.{length, length-append}
@@ -33,11 +35,13 @@ returns c =
     let s = tested .before .before .before in
     rw (asks-reference (s .args .c) (s .args .tag) (tested .if1 .taken)) (
       rw length-append (omega (arith, reference-long s, challenge-long s)),
-      reference-laid (now (s .args .answer)) _ _ (reference-long s) (first .put-bytes .ensures) (second .put-bytes2 .ensures),
+      reference-laid (now (s .args .answer)) _ _ (reference-long s) (first .put-bytes .ensures)
+          (second .put-bytes2 .ensures),
     )
 
 put-bytes-requires-3 : tie.Need-put-bytes-requires-3
-put-bytes-requires-3 c κs = omega (arith, traceability-long (c .before .before .before .before .before .before .before))
+put-bytes-requires-3 c κs =
+    omega (arith, traceability-long (c .before .before .before .before .before .before .before))
 
 returns-2 : tie.Need-returns-2
 returns-2 c =
@@ -45,13 +49,15 @@ returns-2 c =
     let second = laid .before .before .before .before in
     let first = second .before in
     let s = first .before .before .before in
-    rw (asks-traceability (s .args .c) (s .args .tag) (first .if1 .left) (second .if2 .taken)) (sym (traceability-long s), laid .put-bytes3 .ensures)
+    rw (asks-traceability (s .args .c) (s .args .tag) (first .if1 .left) (second .if2 .taken))
+    (sym (traceability-long s), laid .put-bytes3 .ensures)
 
 returns-3 : tie.Need-returns-3
 returns-3 c =
     let tested = c .before .before .before .before .before in
     let s = tested .before .before .before .before in
-    rw (asks-states (s .args .c) (s .args .tag) (tested .before .if1 .left) (tested .if2 .left)) (refl, c .before .before .put-bytes4 .ensures)
+    rw (asks-states (s .args .c) (s .args .tag) (tested .before .if1 .left) (tested .if2 .left))
+    (refl, c .before .before .put-bytes4 .ensures)
 
 pub lay-answer-spec : {M : Type 1} → statement M
 lay-answer-spec =

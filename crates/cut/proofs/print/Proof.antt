@@ -1,3 +1,4 @@
+-- `cut::print`: up to 45 records and the first two are at most 47, which the 12220 bytes hold.
 use native.Mathlib.Omega.{arith}
 use lib.ListN.{length-take}
 use borrow.Author.Needs.{needs}

@@ -1,3 +1,4 @@
+-- `groupings::fill_text`: what is filled stays within the window, whose length is kept; the turns count down.
 use Prim.Native.Nat.{_≤_}
 use mathlib.Core.Path.{_≡_}
 use lib.ListN.{length}

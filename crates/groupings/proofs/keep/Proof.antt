@@ -1,3 +1,4 @@
+-- `groupings::keep`: i stays at most n, and no store changes the window's length; n fits, since `end` does.
 use Prim.Native.Nat.{_-_, _≤_}
 use mathlib.Core.Path.{_≡_}
 use native.Mathlib.Omega.{arith}

@@ -1,3 +1,4 @@
+-- `groupings::print_ending`: what is filled lies within the buffer, so the part that is written has that length.
 use native.Mathlib.Omega.{arith}
 use lib.ListN.{length-take}
 use borrow.Author.Needs.{needs}

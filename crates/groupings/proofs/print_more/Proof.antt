@@ -1,3 +1,4 @@
+-- `groupings::print_more`: n is the lesser of two lengths, so the part of the order has n bytes; all else is at hand.
 use native.Mathlib.Omega.{arith}
 use lib.ListN.{length-take}
 use borrow.Author.Needs.{needs}

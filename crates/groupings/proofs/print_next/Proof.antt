@@ -1,3 +1,4 @@
+-- `groupings::print_next`: no more is used up than the window was filled with, as `keep` asks of its two places.
 use native.Mathlib.Omega.{arith}
 use lib.ListN.{length-take}
 use borrow.Author.Needs.{needs}
@@ -8,7 +9,10 @@ slice-aggregate-print-window : tie.Need-slice-aggregate-print-window
 slice-aggregate-print-window c = simp length-take (omega arith)
 
 keep-requires : tie.Need-keep-requires
-keep-requires c κs = (omega (arith, simp length-take at (c .before .before .before .print-window .ensures .0)), search needs)
+keep-requires c κs = (
+  omega (arith, simp length-take at (c .before .before .before .print-window .ensures .0)),
+  search needs,
+)
 
 pub print-next-spec : {M : Type 1} → statement M
 print-next-spec =

@@ -1,3 +1,5 @@
+-- `groupings::print_whole`: `at` stays within the order and `filled` within `out`; a grouping that is found ends
+-- further on and within the order (`found-ahead`), so that less is left each turn.
 use Prim.Native.Nat.{_-_, _≤_}
 use mathlib.Core.Path.{_≡_, _∙_}
 use native.Mathlib.Omega.{arith}
@@ -19,7 +21,9 @@ loop-less : tie.Need-loop-less Inv-loop μ-loop
 loop-less c =
     let loop = c .before .before .before .before .before .before .before .before .before .before .loop in
     let e = c .before .before .before .before .before .before .before .before .found-at .ensures in
-    let h = found-ahead (now (c .before .before .before .before .before .before .before .before .before .before .before .before .before .args .order)) (loop .at) (rw e at (c .before .before .before .before .before .before .if1 .left)) in
+    let h = found-ahead
+    (now (c .before .before .before .before .before .before .before .before .before .before .before .before
+    .before .args .order)) (loop .at) (rw e at (c .before .before .before .before .before .before .if1 .left)) in
     rw e (omega arith)
 
 loop-again : tie.Need-loop-again Inv-loop μ-loop
@@ -27,7 +31,9 @@ loop-again c =
     let g = c .before .before .put-grouping in
     let loop = c .before .before .before .before .before .before .before .before .before .before .loop in
     let e = c .before .before .before .before .before .before .before .before .found-at .ensures in
-    let h = found-ahead (now (c .before .before .before .before .before .before .before .before .before .before .before .before .before .args .order)) (loop .at) (rw e at (c .before .before .before .before .before .before .if1 .left)) in
+    let h = found-ahead
+    (now (c .before .before .before .before .before .before .before .before .before .before .before .before
+    .before .args .order)) (loop .at) (rw e at (c .before .before .before .before .before .before .if1 .left)) in
     (rw e (h .1), omega arith, g .kept .1 .0 ∙ loop .inv .2)
 
 pub print-whole-spec : {M : Type 1} → statement M

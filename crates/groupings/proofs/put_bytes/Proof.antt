@@ -1,3 +1,4 @@
+-- `groupings::put_bytes`: i stays within the value and `to` within `out`, piece after piece; no piece is empty.
 use Prim.Native.Nat.{_-_, _≤_}
 use mathlib.Core.Path.{_≡_}
 use lib.ListN.{length}

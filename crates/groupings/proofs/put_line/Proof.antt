@@ -1,3 +1,4 @@
+-- `groupings::put_line`: nothing changes the length of `out`, so there is room for the value and for the line feed.
 use mathlib.Core.Path.{_∙_}
 use native.Mathlib.Omega.{arith}
 use lib.ListN.{length-set}

@@ -1,3 +1,4 @@
+-- `groupings::read_rest`: the window keeps its length, and nothing else is asked; the turns count down.
 use mathlib.Core.Path.{_≡_}
 use lib.ListN.{length}
 use borrow.Author.Needs.{needs}

@@ -1,3 +1,4 @@
+-- `groupings::room_for`: either so many more have room, or the filled part is written and all of the buffer is free.
 use native.Mathlib.Omega.{arith}
 use lib.ListN.{length-take}
 use borrow.Author.Needs.{needs}

@@ -1,3 +1,4 @@
+-- `groupings::take_chunk`: `read` lays at most the 512 bytes that it is lent, which the window has behind `filled`.
 use Prim.Native.Nat.{_≤_}
 use native.Mathlib.Omega.{arith}
 use lib.ListN.{length-take, length-drop}
@@ -21,7 +22,12 @@ returns-2 : tie.Need-returns-2
 returns-2 c =
     let read = c .before .before .before .before .before .before .read in
     let w : read .result .count ≤ 512 = rw (read .ensures .0) (simp (length-take, length-drop) (omega arith)) in
-    omega (arith, w, part-read-end (c .before .before .before .before .before .before .before .before .before), c .after-chunk .ensures)
+    omega (
+      arith,
+      w,
+      part-read-end (c .before .before .before .before .before .before .before .before .before),
+      c .after-chunk .ensures,
+    )
 
 pub take-chunk-spec : {M : Type 1} → statement M
 take-chunk-spec =

@@ -1,3 +1,5 @@
+-- `header::header_at`: a law for each return: `torn-short` for the first two, then `short-form`, `torn-long`,
+-- `long-ffff` and `long-form`, which read the header by its place in the whole slice.
 use mathlib.Core.Path.{sym}
 use native.Mathlib.Omega.{arith}
 use denote.Ref.{now}
@@ -20,7 +22,8 @@ returns-3 : tie.Need-returns-3
 returns-3 c =
     let a = c .before .before .before .before .before .before .before .args in
     let w = c .before .wide .ensures .0 in
-    rw (c .before .before .before .word-at .ensures, w) (sym (short-form (now (a .s)) (a .at) (omega arith) (rw w at (c .if3 .taken))))
+    rw (c .before .before .before .word-at .ensures, w)
+    (sym (short-form (now (a .s)) (a .at) (omega arith) (rw w at (c .if3 .taken))))
 
 returns-4 : tie.Need-returns-4
 returns-4 c =
@@ -34,7 +37,8 @@ returns-5 c =
     let wide = c .before .before .before .before .wide in
     let a = c .before .before .before .before .before .before .before .before .before .before .args in
     let w = wide .ensures .0 in
-    sym (long-ffff (now (a .s)) (a .at) (omega arith) (rw w at (if3 .left)) (rw (c .before .word-at2 .ensures) at (c .if5 .taken)))
+    sym (long-ffff (now (a .s)) (a .at) (omega arith) (rw w at (if3 .left))
+    (rw (c .before .word-at2 .ensures) at (c .if5 .taken)))
 
 returns-6 : tie.Need-returns-6
 returns-6 c =
@@ -44,7 +48,8 @@ returns-6 c =
     let a = c .before .before .before .before .before .before .before .before .before .before .args in
     let w = wide .ensures .0 in
     let l = c .before .word-at2 .ensures in
-    rw (word-at .ensures, l) (sym (long-form (now (a .s)) (a .at) (omega arith) (rw w at (if3 .left)) (rw l at (c .if5 .left))))
+    rw (word-at .ensures, l)
+    (sym (long-form (now (a .s)) (a .at) (omega arith) (rw w at (if3 .left)) (rw l at (c .if5 .left))))
 
 pub header-at-spec : {M : Type 1} → statement M
 header-at-spec =

@@ -1,3 +1,4 @@
+-- `header::is_query`: the three returns by `cases`, which makes the tests the Bools of `isQuery`.
 use Rattle.lists.specs.Choice.{cases}
 use Rattle.header.proofs.is_query.Statement.{statement}
 use Rattle.header.proofs.is_query.Tie as tie

@@ -1,3 +1,4 @@
+-- `job::print_register`: at most 47 lines of 26 characters and END are the 1232 that `out` holds.
 use native.Mathlib.Omega.{arith}
 use lib.ListN.{length-take}
 use borrow.Author.Needs.{needs}

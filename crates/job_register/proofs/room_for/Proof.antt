@@ -1,3 +1,4 @@
+-- `job_register::room_for`: the two returns are the two cases of `recordRoom`.
 use borrow.Author.Tests.{lt-ltb, le-ltb}
 use Rattle.job_register.specs.Jobs.{lineRoom}
 use Rattle.job_register.proofs.room_for.Statement.{statement}

@@ -1,15 +1,18 @@
+-- `job_session::install_record`: the event's front bytes laid over 260 zeros are its record (`record-laid`).
 use mathlib.Core.Path.{_∙_}
 use native.Mathlib.Omega.{arith}
 use borrow.Author.Needs.{needs}
-use Rattle.cutting.specs.Job.{installRecord, installData}
+use Rattle.theorem_cutting.specs.Job.{installRecord, installData}
 use Rattle.job_session.proofs.Laid.{record-laid}
 use Rattle.job_session.proofs.install_record.Statement.{statement}
 use Rattle.job_session.proofs.install_record.Tie as tie
 
 returns : tie.Need-returns
 unfolding installRecord
-returns c =
-    (c .before .lay .ensures ∙ record-laid (record { kind = 1; p1 = 0x0C; bytes = installData }) (omega arith), search needs)
+returns c = (
+  c .before .lay .ensures ∙ record-laid (record { kind = 1; p1 = 0x0C; bytes = installData }) (omega arith),
+  search needs,
+)
 
 pub install-record-spec : {M : Type 1} → statement M
 install-record-spec = tie.close (tie.spec (search needs) (search needs) (search needs) returns)

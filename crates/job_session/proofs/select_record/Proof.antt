@@ -1,15 +1,18 @@
+-- `job_session::select_record`: the event's front bytes laid over 260 zeros are its record (`record-laid`).
 use mathlib.Core.Path.{_∙_}
 use native.Mathlib.Omega.{arith}
 use borrow.Author.Needs.{needs}
-use Rattle.cutting.specs.Job.{selectRecord, instanceName}
+use Rattle.theorem_cutting.specs.Job.{selectRecord, instanceName}
 use Rattle.job_session.proofs.Laid.{record-laid}
 use Rattle.job_session.proofs.select_record.Statement.{statement}
 use Rattle.job_session.proofs.select_record.Tie as tie
 
 returns : tie.Need-returns
 unfolding selectRecord
-returns c =
-    (c .before .lay .ensures ∙ record-laid (record { kind = 3; p1 = 0x00; bytes = instanceName }) (omega arith), search needs)
+returns c = (
+  c .before .lay .ensures ∙ record-laid (record { kind = 3; p1 = 0x00; bytes = instanceName }) (omega arith),
+  search needs,
+)
 
 pub select-record-spec : {M : Type 1} → statement M
 select-record-spec = tie.close (tie.spec (search needs) (search needs) (search needs) returns)

@@ -1,3 +1,4 @@
+-- `lot::finish`: 47 lines of 26 bytes and the end of 10 are at most the 1232 bytes of `out`.
 use native.Mathlib.Omega.{arith}
 use lib.ListN.{length-take}
 use borrow.Author.Needs.{needs}

@@ -1,3 +1,4 @@
+-- `lot::pass_on`: what is gathered fits in `out`, so its slice has just that length; it is kept, or 0 is left.
 use native.Mathlib.Omega.{arith}
 use lib.ListN.{length-take}
 use borrow.Author.Needs.{needs}

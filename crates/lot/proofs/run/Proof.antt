@@ -1,3 +1,5 @@
+-- `lot::run`: the four buffers keep their sizes, and no name and no gathered line leaves its buffer;
+-- the turns count down.
 use Prim.Native.Nat.{_≤_}
 use mathlib.Core.Path.{_≡_}
 use lib.ListN.{length}
@@ -6,7 +8,8 @@ use Rattle.lot.proofs.run.Statement.{statement}
 use Rattle.lot.proofs.run.Tie as tie
 
 abbrev Inv-loop : tie.InvT-loop
-Inv-loop o folder window₀ job₀ lines₀ out₀ separator lot₀ at₀ filled₀ turns₀ window job lines out lot at filled turns =
+Inv-loop o folder window₀ job₀ lines₀ out₀ separator lot₀ at₀ filled₀ turns₀ window job lines out lot at filled turns
+    =
     (length window ≡ 4352) × (length job ≡ 8233) × (length lines ≡ 8233) × (length out ≡ 12288) × (at ≤ filled)
     × (filled ≤ 4352) × (lot .gathered ≤ 12288)
 

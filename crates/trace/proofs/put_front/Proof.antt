@@ -1,3 +1,4 @@
+-- `trace::put_front`: every fact is at hand but one: `least` keeps k within the bytes, so the part has k of them.
 use native.Mathlib.Omega.{arith}
 use lib.ListN.{length-take}
 use borrow.Author.Needs.{needs}

@@ -1,3 +1,4 @@
+-- `trace::put_secrets`: the place stays at or behind `at` and within the buffer, whose length no turn changes.
 use Prim.Native.Nat.{_-_, _≤_}
 use mathlib.Core.Path.{_≡_}
 use lib.ListN.{length}

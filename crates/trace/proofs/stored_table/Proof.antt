@@ -1,3 +1,4 @@
+-- `trace::stored_table`: the table keeps its 558 bytes; 18 from 18 times i on fit, since i is below 31.
 use Prim.Native.Nat.{_-_, _≤_}
 use mathlib.Core.Path.{_≡_}
 use lib.ListN.{length}

@@ -1,10 +1,12 @@
+-- `trace::trace_all`: the card stays good and the end within the buffer: each turn's `trace_one` says so of what it
+-- leaves; the lengths of area and buffer stay.
 use Prim.Native.Nat.{_-_, _≤_}
 use mathlib.Core.Path.{_≡_, _∙_}
 use native.Mathlib.Omega.{arith}
 use lib.ListN.{length}
-use Rattle.forms.specs.Room.{Behind}
+use Rattle.print_forms.specs.Room.{Behind}
 use Rattle.model.specs.Stored.{areaSize}
-use Rattle.soundness.specs.Keeps.{Good}
+use Rattle.theorem_sound.specs.Keeps.{Good}
 use borrow.Author.Needs.{needs}
 use Rattle.trace.proofs.trace_all.Statement.{statement}
 use Rattle.trace.proofs.trace_all.Tie as tie
@@ -20,8 +22,17 @@ loop-again : tie.Need-loop-again Inv-loop μ-loop
 loop-again c =
     let t = c .before .before .before .before .before .before .trace-one in
     let l = c .before .before .before .before .before .before .before .before .before .before .before .loop in
-    let e = t .ensures .1 in
-    (t .ensures .0, t .kept .1 .0 ∙ l .inv .1, (omega arith, e .1, e .2), t .kept .1 .1 .1 .0 ∙ l .inv .3, omega (arith, c .before .before .before .before .before .before .before .before .before .before .loop-test .taken))
+    let e = t .ensures .1 in (
+      t .ensures .0,
+      t .kept .1 .0 ∙ l .inv .1,
+      (omega arith, e .1, e .2),
+      t .kept .1 .1 .1 .0 ∙ l .inv .3,
+      omega (
+        arith,
+        c .before .before .before .before .before .before .before .before .before .before .loop-test
+            .taken,
+      ),
+    )
 
 pub trace-all-spec : {M : Type 1} → statement M
 trace-all-spec =

@@ -1,7 +1,8 @@
+-- `trace::trace_blocks`: the card and its area stay good from block to block; the turns count down.
 use mathlib.Core.Path.{_≡_}
 use lib.ListN.{length}
 use Rattle.model.specs.Stored.{areaSize}
-use Rattle.soundness.specs.Keeps.{Good}
+use Rattle.theorem_sound.specs.Keeps.{Good}
 use borrow.Author.Needs.{needs}
 use Rattle.trace.proofs.trace_blocks.Statement.{statement}
 use Rattle.trace.proofs.trace_blocks.Tie as tie

@@ -1,3 +1,4 @@
+-- `lot::clean`: a byte set keeps the line's length (`length-set`), so `to` stays within it.
 use Prim.Native.Nat.{_-_, _≤_}
 use mathlib.Core.Path.{_≡_}
 use native.Mathlib.Omega.{arith}

@@ -1,3 +1,4 @@
+-- `lot::put_name`: `put_text` ends within the line; the last part of `Behind` follows by `length-take-le`.
 use Prim.Native.Nat.{_≤_}
 use mathlib.Core.Path.{sym}
 use lib.ListN.{length}

@@ -1,3 +1,4 @@
+-- `lot::end_of`: i stays between `at` and `filled`, and both returns are i.
 use Prim.Native.Nat.{_-_, _≤_}
 use borrow.Author.Needs.{needs}
 use Rattle.lot.proofs.names.end_of.Statement.{statement}

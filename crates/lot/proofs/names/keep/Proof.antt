@@ -1,3 +1,4 @@
+-- `lot::keep`: i is at most n and the window keeps its length, so `at + i` stays below `filled`.
 use Prim.Native.Nat.{_-_, _≤_}
 use mathlib.Core.Path.{_≡_}
 use lib.ListN.{length}

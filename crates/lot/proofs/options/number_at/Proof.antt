@@ -1,3 +1,4 @@
+-- `lot::number_at`: i never passes the word's end, since a turn there returns; the digits left count down.
 use Prim.Native.Nat.{_≤_}
 use lib.ListN.{length}
 use borrow.Author.Needs.{needs}

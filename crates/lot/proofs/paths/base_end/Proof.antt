@@ -1,3 +1,4 @@
+-- `lot::base_end`: `end` and i stay between `start` and the name's length; `at_dot` keeps `end` there.
 use Prim.Native.Nat.{_-_, _≤_}
 use lib.ListN.{length}
 use borrow.Author.Needs.{needs}

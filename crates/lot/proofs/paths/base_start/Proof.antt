@@ -1,3 +1,4 @@
+-- `lot::base_start`: `start` is at most i: behind a slash it is i + 1, and i goes on to that.
 use Prim.Native.Nat.{_-_, _≤_}
 use lib.ListN.{length}
 use borrow.Author.Needs.{needs}

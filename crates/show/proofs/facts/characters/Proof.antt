@@ -1,3 +1,4 @@
+-- `show::characters`: `text` keeps its 16 bytes, so each place that is written is there; i counts up to 16.
 use Prim.Native.Nat.{_-_}
 use mathlib.Core.Path.{_≡_}
 use lib.ListN.{length}

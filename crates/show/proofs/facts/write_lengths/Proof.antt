@@ -1,3 +1,4 @@
+-- `show::write_lengths`: i is at most 5, so each secret is there; every other fact is at hand.
 use Prim.Native.Nat.{_-_, _≤_}
 use borrow.Author.Needs.{needs}
 use Rattle.show.proofs.facts.write_lengths.Statement.{statement}

@@ -1,3 +1,4 @@
+-- `show::write_name`: k is at most 16, so the first k bytes of text and name are k bytes (`length-take`).
 use native.Mathlib.Omega.{arith}
 use lib.ListN.{length-take}
 use borrow.Author.Needs.{needs}

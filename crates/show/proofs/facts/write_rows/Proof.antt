@@ -1,3 +1,4 @@
+-- `show::write_rows`: r is at most 11, and counts up to it; every fact is at hand.
 use Prim.Native.Nat.{_-_, _≤_}
 use borrow.Author.Needs.{needs}
 use Rattle.show.proofs.facts.write_rows.Statement.{statement}
@@ -13,5 +14,6 @@ abbrev μ-loop : tie.MeasureT-loop
 pub write-rows-spec : {M : Type 1} → statement M
 write-rows-spec =
     tie.close
-    (tie.spec Inv-loop μ-loop (search needs) (search needs) (search needs) (search needs) (search needs) (search needs)
+    (tie.spec Inv-loop μ-loop (search needs) (search needs) (search needs) (search needs) (search needs)
+    (search needs)
     (search needs))

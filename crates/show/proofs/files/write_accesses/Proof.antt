@@ -1,3 +1,4 @@
+-- `show::write_accesses`: i is at most 4, so each access and key is there; every fact is at hand.
 use Prim.Native.Nat.{_-_, _≤_}
 use borrow.Author.Needs.{needs}
 use Rattle.show.proofs.files.write_accesses.Statement.{statement}

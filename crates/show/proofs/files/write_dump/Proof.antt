@@ -1,3 +1,4 @@
+-- `show::write_dump`: the invariant says nothing: the loop's test keeps i within the bytes; ever fewer are left.
 use Prim.Native.Nat.{_-_}
 use lib.ListN.{length}
 use borrow.Author.Needs.{needs}

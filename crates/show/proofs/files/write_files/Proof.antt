@@ -1,3 +1,4 @@
+-- `show::write_files`: i is at most `count`, and that at most 31, so each descriptor is there.
 use Prim.Native.Nat.{_-_, _≤_}
 use borrow.Author.Needs.{needs}
 use Rattle.show.proofs.files.write_files.Statement.{statement}

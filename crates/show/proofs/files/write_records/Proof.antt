@@ -1,3 +1,4 @@
+-- `show::write_records`: the invariant says nothing: the loop's test keeps `nn` below `last`, so it may count up.
 use Prim.Native.Nat.{_-_}
 use borrow.Author.Needs.{needs}
 use Rattle.show.proofs.files.write_records.Statement.{statement}
@@ -13,4 +14,5 @@ abbrev μ-loop : tie.MeasureT-loop
 pub write-records-spec : {M : Type 1} → statement M
 write-records-spec =
     tie.close
-    (tie.spec Inv-loop μ-loop (search needs) (search needs) (search needs) (search needs) (search needs) (search needs))
+    (tie.spec Inv-loop μ-loop (search needs) (search needs) (search needs) (search needs) (search needs)
+    (search needs))

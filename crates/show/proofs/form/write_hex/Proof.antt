@@ -1,3 +1,4 @@
+-- `show::write_hex`: n is at most the number of bytes, so the first n of them are n (`length-take`).
 use native.Mathlib.Omega.{arith}
 use lib.ListN.{length-take}
 use borrow.Author.Needs.{needs}

@@ -1,9 +1,0 @@
-use Rattle.lists.specs.Choice.{cases}
-use Rattle.clauses.proofs.gp_ok.Statement.{statement}
-use Rattle.clauses.proofs.gp_ok.Tie as tie
-
-pub gp-ok-spec : {M : Type 1} → statement M
-gp-ok-spec =
-    tie.close
-    (tie.spec (λ c. search cases) (λ c. search cases) (λ c. search cases) (λ c. search cases)
-    (λ c. search cases))

@@ -1,4 +1,0 @@
-pub mod Packing
-pub mod Stepping
-pub mod Filling
-pub mod Commands

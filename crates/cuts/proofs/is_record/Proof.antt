@@ -1,6 +1,0 @@
-use Rattle.lists.specs.Choice.{cases}
-use Rattle.cuts.proofs.is_record.Statement.{statement}
-use Rattle.cuts.proofs.is_record.Tie as tie
-
-pub is-record-spec : {M : Type 1} → statement M
-is-record-spec = tie.close (tie.spec (λ c. search cases) (λ c. search cases))

@@ -1,6 +1,0 @@
-use Rattle.lists.specs.Choice.{cases}
-use Rattle.descriptor.proofs.counter_in.Statement.{statement}
-use Rattle.descriptor.proofs.counter_in.Tie as tie
-
-pub counter-in-spec : {M : Type 1} → statement M
-counter-in-spec = tie.close (tie.spec (λ c. search cases) (λ c. search cases) (λ c. search cases))

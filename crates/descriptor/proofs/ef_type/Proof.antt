@@ -1,9 +1,0 @@
-use Rattle.lists.specs.Choice.{cases}
-use Rattle.descriptor.proofs.ef_type.Statement.{statement}
-use Rattle.descriptor.proofs.ef_type.Tie as tie
-
-pub ef-type-spec : {M : Type 1} → statement M
-ef-type-spec =
-    tie.close
-    (tie.spec (λ c. search cases) (λ c. search cases) (λ c. search cases) (λ c. search cases)
-    (λ c. search cases))

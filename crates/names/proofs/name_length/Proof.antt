@@ -1,6 +1,0 @@
-use Rattle.lists.specs.Choice.{cases}
-use Rattle.names.proofs.name_length.Statement.{statement}
-use Rattle.names.proofs.name_length.Tie as tie
-
-pub name-length-spec : {M : Type 1} → statement M
-name-length-spec = tie.close (tie.spec (λ c. search cases) (λ c. search cases))

@@ -1,6 +1,0 @@
-use Rattle.lists.specs.Choice.{cases}
-use Rattle.opened.proofs.is_07_with_5a.Statement.{statement}
-use Rattle.opened.proofs.is_07_with_5a.Tie as tie
-
-pub is-07-with-5a-spec : {M : Type 1} → statement M
-is-07-with-5a-spec = tie.close (tie.spec (λ c. search cases) (λ c. search cases))

@@ -1,0 +1,4 @@
+pub mod Packing
+pub mod Portioning
+pub mod Filling
+pub mod Commands

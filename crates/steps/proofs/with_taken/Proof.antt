@@ -1,9 +1,0 @@
-use borrow.Author.Needs.{needs}
-use Rattle.steps.proofs.with_taken.Statement.{statement}
-use Rattle.steps.proofs.with_taken.Tie as tie
-
-returns : tie.Need-returns
-returns c = rw (c .with-row .ensures)
-
-pub with-taken-spec : {M : Type 1} → statement M
-with-taken-spec = tie.close (tie.spec (search needs) returns)

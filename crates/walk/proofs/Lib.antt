@@ -1,3 +1,0 @@
-mod Shorter
-pub mod Paces
-mod Steps
