@@ -49,14 +49,14 @@ void fill(u8 *to, u32 n)
 }
 
 /* C doesn't order the operands of an expression, so no expression here draws twice but through ?:. */
-static void flip_bit(u8 *bytes, u32 n)
+void flip_bit(u8 *bytes, u32 n)
 {
     u32 i = below(n), bit = below(8);
     bytes[i] ^= (u8)(1u << bit);
 }
 
 /* One of n bytes gets a value from a to b. */
-static void spoil(u8 *bytes, u32 n, u32 a, u32 b)
+void spoil(u8 *bytes, u32 n, u32 a, u32 b)
 {
     u32 i = below(n);
     bytes[i] = (u8)between(a, b);
@@ -327,7 +327,7 @@ static void append_secrets(u32 most)
         append(0x4104, 0, between(1, most));
 }
 
-static const u8 *listed(u32 sfi)
+const u8 *listed(u32 sfi)
 {
     u32 i;
     for (i = 1; i < table_count; i++)
@@ -336,7 +336,7 @@ static const u8 *listed(u32 sfi)
     return 0;
 }
 
-static u32 record_size(const u8 *d)
+u32 record_size(const u8 *d)
 {
     return d[D_EF] == BINARY ? file_size(d) : d[D_REC];
 }
@@ -577,13 +577,18 @@ void damage_grouping(u32 turn)
 
 /* ---------------------------------------------------------------- sessions */
 
-enum { MAX_EVENTS = 4000 };
-
-static u8 session[CHIP + MAX_EVENTS * RECORD + RECORD];
-static u32 events;              /* of the session */
+u8 session[CHIP + MAX_EVENTS * RECORD + RECORD];
+u32 events;                     /* of the session */
 static u8 name[16], name_length;
 
-static u8 *record_at(u32 i)
+/* The instance name that the session's events have. */
+const u8 *session_name(u8 *length)
+{
+    *length = name_length;
+    return name;
+}
+
+u8 *record_at(u32 i)
 {
     return session + CHIP + i * RECORD;
 }
@@ -610,7 +615,7 @@ void make_chip_record(u8 *chip, flag low)
     memset(chip + 37, 0, 3);
 }
 
-static void new_session(void)
+void new_session(void)
 {
     events = 0;
     make_chip_record(session, chance(4));
@@ -638,7 +643,7 @@ static u32 install_data(u8 *to, u8 p1, const u8 *instance, u32 length)
     return n + (p1 == 0x08 ? 4 : 6);
 }
 
-static void add_install(u8 p1)
+void add_install(u8 p1)
 {
     u8 data[DATA];
     add_event(INSTALL, p1, data, install_data(data, p1, name, name_length));
@@ -664,7 +669,7 @@ static void add_odd_install(void)
     add_event(INSTALL, kind == 5 ? any_byte() : p1, data, n);
 }
 
-static void add_select(void)
+void add_select(void)
 {
     add_event(SELECT, (u8)(chance(50) ? 4 : any_byte()), name, name_length);
 }
@@ -684,7 +689,7 @@ static void add_odd_select(void)
     add_event(SELECT, 0, data, n);
 }
 
-static void add_query(u32 tag, u8 p1)
+void add_query(u32 tag, u8 p1)
 {
     u8 data[5] = { (u8)(tag >> 8), (u8)tag, 0x00, 0x00, 0x00 };
     flag wide = chance(20);
@@ -724,7 +729,7 @@ static void add_random_store(void)
 }
 
 /* Records that are refused: kind, padding, or both. */
-static void add_refused(void)
+void add_refused(void)
 {
     static const u8 kinds[6] = { 0, 9, 10, 99, 100, 255 };
     u8 data[DATA], *r = record_at(events);
@@ -740,7 +745,7 @@ static void add_refused(void)
 }
 
 /* Any event at all. */
-static void add_noise(void)
+void add_noise(void)
 {
     static const u8 plain[5] = { OTHER, DESELECT, RESET, LOCK, UNLOCK };
     static const u8 p1s[3] = { 0x04, 0x08, 0x0C };
@@ -762,7 +767,7 @@ static void add_noise(void)
 }
 
 /* An event of this kind, right or wrong. */
-static void add_kind(u32 kind)
+void add_kind(u32 kind)
 {
     static const u8 p1s[3] = { 0x04, 0x08, 0x0C };
     u8 data[DATA];
@@ -857,12 +862,14 @@ static void pack(const u8 *bytes, u32 n)
         close_command();
 }
 
-/* The list, unit by unit; the last command asks for the end. */
-static void cut_by_units(void)
+/* The rest of an open value and the list, unit by unit; the last command asks for the end. */
+void cut_rest(const u8 *rest, u32 length)
 {
     u8 head[5 + 70000];
     u32 i, j;
     packed_used = 0;
+    for (j = 0; j < length; j++)
+        pack(rest + j, 1);
     for (i = 0; i < item_count; i++) {
         u32 n = header_of(&items[i], head);
         if (packed_used == 0 && chance(query_percent))
@@ -879,6 +886,11 @@ static void cut_by_units(void)
     close_command();
     if (events > 0 && record_at(events - 1)[0] == STORE_DATA)
         record_at(events - 1)[1] |= 0x80;
+}
+
+static void cut_by_units(void)
+{
+    cut_rest(0, 0);
 }
 
 /* The order's bytes, cut at this place and then where 255 bytes (or fewer, by chance) are full. */
@@ -948,7 +960,7 @@ enum total any_total(void)
     return chance(50) ? ANY_TOTAL : chance(70) ? EXACT_TOTAL : OVER_TOTAL;
 }
 
-static u32 any_files(void)
+u32 any_files(void)
 {
     return chance(15) ? 30 : chance(50) ? between(1, 5) : between(1, 30);
 }
@@ -963,7 +975,7 @@ static void random_order(u32 files, enum total total)
     make_order(files, total, any_percent());
 }
 
-static void set_cutting(void)
+void set_cutting(void)
 {
     close_percent = chance(50) ? 0 : chance(70) ? below(8) : below(40);
     query_percent = chance(70) ? 0 : below(40);
@@ -1126,7 +1138,7 @@ static void session_mixed(void)
 }
 
 /* Makes session number i; its length. Some end torn, some have a refused chip record. */
-static u32 make_session(u32 i)
+u32 make_session(u32 i)
 {
     new_session();
     switch (i % 12) {

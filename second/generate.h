@@ -1,4 +1,5 @@
-/* generate.h: what the generator of sessions and jobs (generate.c) shows to the generator of lots (jobs.c). */
+/* generate.h: what the generator of sessions and jobs (generate.c) shows to those of lots (jobs.c) and calls
+ * (generate_calls.c). */
 #ifndef GENERATE_H
 #define GENERATE_H
 #include "second.h"
@@ -10,6 +11,8 @@ u32 between(u32 a, u32 b);
 flag chance(u32 percent);
 u8 any_byte(void);
 void fill(u8 *to, u32 n);
+void flip_bit(u8 *bytes, u32 n);
+void spoil(u8 *bytes, u32 n, u32 a, u32 b);
 
 /* An order as a list of groupings. */
 enum { MAX_ORDER = 60000 };
@@ -28,6 +31,9 @@ enum total { ANY_TOTAL, EXACT_TOTAL, OVER_TOTAL };
 extern u8 table[TABLE * DESCRIPTOR];
 extern u32 table_count, table_total;
 u8 *descriptor(u32 i);
+const u8 *listed(u32 sfi);
+u32 record_size(const u8 *d);
+u32 any_files(void);
 
 /* Orders that pass, and damage to them. */
 void make_chip_record(u8 *chip, flag low);
@@ -41,6 +47,23 @@ void damage_length(u32 turn);
 void damage_startup(u32 turn);
 void damage_records(u32 turn);
 void damage_grouping(u32 turn);
+
+/* The session at hand. */
+enum { MAX_EVENTS = 4000 };
+extern u8 session[];
+extern u32 events;
+const u8 *session_name(u8 *length);
+u8 *record_at(u32 i);
+void new_session(void);
+u32 make_session(u32 i);
+void add_install(u8 p1);
+void add_select(void);
+void add_query(u32 tag, u8 p1);
+void add_refused(void);
+void add_noise(void);
+void add_kind(u32 kind);
+void set_cutting(void);
+void cut_rest(const u8 *rest, u32 length);
 
 /* What came, and what did not. */
 extern u32 missing;

@@ -1,6 +1,6 @@
 /* second.c: an independent second program for document 01 ("the paper"): the card's model and the modes
  * replay, trace, cut and groupings. No heap and no library but read, write, memcpy, memset, memcmp.
- * (The mode lot, which works with files, is lot.c.)
+ * (The mode lot, which works with files, is lot.c; the mode calls is calls.c.)
  *
  * Decided here, where the paper and its readings leave a point open:
  *  - No open value is open_tag 0. "Selected" is a truth value, so sound asks nothing of its form.
@@ -14,6 +14,9 @@
  *  - replay and trace of a refused chip record end with status 0: the line printed is the result.
  *  - groupings streams: one pull never needs more than 65,539 bytes, so that many are kept ready.
  *  - trace's "held bytes" are those of an open '3100'; '-' for an open 'ssnn'.
+ *  - Bytes past a length stay as given but where the readings name a change. So the held bytes become zero when a
+ *    descriptor passes and when a value that is open is dropped (a lock); a lock with nothing open, the opening of a
+ *    value and an 'ssnn' that comes to its last byte leave them.
  *  - replay --sum: when the whole register is out, one line on standard error, "AREA " and the file area's place sum
  *    in ten decimal digits; 0 for a refused chip record. No word but that one is taken behind a mode.
  */
@@ -301,11 +304,20 @@ u32 fresh(struct card *c, const u8 *chip, u32 length)
     return 0;
 }
 
-static void drop_open(struct card *c)
+/* The open value has come to its last byte. */
+static void close_open(struct card *c)
 {
     c->open_tag = 0;
     c->open_count = 0;
     c->open_missing = 0;
+}
+
+/* An open value is dropped, if there is one: the held bytes go with it. */
+static void drop_open(struct card *c)
+{
+    if (c->open_tag == 0)
+        return;
+    close_open(c);
     memset(c->held, 0, sizeof c->held);
 }
 
@@ -558,7 +570,7 @@ static enum outcome feed(struct card *c, u8 *area, struct command *m, const stru
     take_row(c, row_of(c->open_tag));
     if (c->open_tag != 0x3100)
         c->last_tag = c->open_tag;
-    drop_open(c);
+    close_open(c);
     return PASSED;
 }
 
@@ -1411,7 +1423,7 @@ int run_mode(const char *mode, const char *word)
 }
 
 #ifndef FREESTANDING
-/* These modes work with files: lot.c and jobs.c give them. A build of this file without those has none of them. */
+/* lot.c, jobs.c, calls.c and generate_calls.c give these modes. A build of this file without those has none. */
 __attribute__((weak)) int lot(int argc, char **argv)
 {
     (void)argc;
@@ -1433,6 +1445,20 @@ __attribute__((weak)) int realjobs(int argc, char **argv)
     return -1;
 }
 
+__attribute__((weak)) int calls(int argc, char **argv)
+{
+    (void)argc;
+    (void)argv;
+    return -1;
+}
+
+__attribute__((weak)) int generatecalls(int argc, char **argv)
+{
+    (void)argc;
+    (void)argv;
+    return -1;
+}
+
 static int file_mode(const char *mode, int argc, char **argv)
 {
     if (same_text(mode, "lot"))
@@ -1441,6 +1467,10 @@ static int file_mode(const char *mode, int argc, char **argv)
         return lotjobs(argc, argv);
     if (same_text(mode, "realjobs"))
         return realjobs(argc, argv);
+    if (same_text(mode, "calls"))
+        return calls(argc, argv);
+    if (same_text(mode, "generatecalls"))
+        return generatecalls(argc, argv);
     return -1;
 }
 #endif
@@ -1463,7 +1493,7 @@ int main(int argc, char **argv)
 #endif
     say("usage: second replay [--sum] | trace | cut | groupings | lot [-0] [--resume] [--part K/N] OUT |\n"
         "       generate SEED COUNT [DIR] | big SEED EVENTS | lotjobs SEED COUNT FOLDER |\n"
-        "       realjobs SEED COUNT FOLDER [text] | selftest\n");
+        "       realjobs SEED COUNT FOLDER [text] | calls | generatecalls SEED COUNT FILE | selftest\n");
     return 2;
 }
 

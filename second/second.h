@@ -1,4 +1,5 @@
-/* second.h: what the model (second.c) shows to lot.c, the generators (generate.c, jobs.c) and the tests (tests.c).
+/* second.h: what the model (second.c) shows to lot.c, calls.c, the generators (generate.c, jobs.c, generate_calls.c)
+ * and the tests (tests.c).
  * "The paper" is document 01; the decisions beyond it are at the top of second.c. */
 #ifndef SECOND_H
 #define SECOND_H
@@ -202,6 +203,8 @@ int lotjobs(int argc, char **argv);
 int realjobs(int argc, char **argv);
 int generate(int argc, char **argv);
 int big(int argc, char **argv);
+int calls(int argc, char **argv);
+int generatecalls(int argc, char **argv);
 int selftest(void);
 
 #endif

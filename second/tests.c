@@ -290,6 +290,11 @@ static void example_12(void)
 
 struct mode_run { u8 bytes[200000]; u32 length; int status; char said[1000]; };
 
+static int child_mode(const char *mode, const char *word)
+{
+    return strcmp(mode, "calls") == 0 ? calls(2, 0) : run_mode(mode, word);
+}
+
 /* Runs a mode, with a word behind it or none, in a child process on these bytes. */
 static void run_child_with(const char *mode, const char *word, const u8 *in, u32 length, struct mode_run *m)
 {
@@ -308,7 +313,7 @@ static void run_child_with(const char *mode, const char *word, const u8 *in, u32
         dup2(fileno(from), 0);
         dup2(fileno(to), 1);
         dup2(fileno(said), 2);
-        _exit(run_mode(mode, word));
+        _exit(child_mode(mode, word));
     }
     waitpid(child, &m->status, 0);
     m->status = WEXITSTATUS(m->status);
@@ -1363,6 +1368,364 @@ static void lots(void)
     empty_folder(folder);
 }
 
+/* ---------------------------------------------------------------- calls in a stored form */
+
+/* A pattern with [n] for n zero bytes, [n:XX] for n bytes XX, '_' for a blank; its own blanks are left out. */
+static void expand(char *to, const char *pattern)
+{
+    while (*pattern != 0) {
+        char *end, pair[3] = "00";
+        unsigned long n;
+        if (*pattern == ' ') {
+            pattern++;
+            continue;
+        }
+        if (*pattern != '[') {
+            *to++ = *pattern == '_' ? ' ' : *pattern;
+            pattern++;
+            continue;
+        }
+        n = strtoul(pattern + 1, &end, 10);
+        if (*end == ':') {
+            memcpy(pair, end + 1, 2);
+            end += 3;
+        }
+        for (; n > 0; n--, to += 2)
+            memcpy(to, pair, 2);
+        pattern = end + 1;
+    }
+    *to = 0;
+}
+
+/* Calls in hexadecimal, and the lines that they give before END. */
+static flag calls_give(const char *in, const char *lines, const char *end)
+{
+    static char hex[60000], text[60000];
+    static u8 bytes[30000];
+    static struct mode_run m;
+    u32 n;
+    expand(hex, in);
+    n = bytes_of(bytes, hex);
+    expand(text, lines);
+    strcat(text, end);
+    run_child("calls", bytes, n, &m);
+    if (m.status == 0 && wrote(&m, text) && m.said[0] == 0)
+        return 1;
+    printf("calls wrote (status %d):\n%.*sand not\n%s", m.status, (int)m.length, (const char *)m.bytes, text);
+    return 0;
+}
+
+static flag call_gives(const char *in, const char *line)
+{
+    return calls_give(in, line, "\nEND 1\n");
+}
+
+/* The parts of a card, as docs/CALLS.md orders them. */
+#define FACTS "10111213 1415161718191A1B1C1D1E1F20212223 2425262728292A2B2C2D2E2F30313233 14 "
+#define NAME_OF_5 NAME "[11] [7]05 "
+#define NONE_OPEN "00 0000 [8] [8] "
+#define NO_TABLE "[558] [8] "
+#define NO_LOAD "[8] [7] 00030D40 [360] "
+#define FRESH_CARD FACTS "00 00 [16] [8] CC 0000 0000 " NONE_OPEN "[18] " NO_TABLE NO_LOAD
+#define INSTALLED(selected) FACTS "07 " selected NAME_OF_5 "CC 0000 0000 " NONE_OPEN "[18] " NO_TABLE NO_LOAD
+#define IN_5A(gp, selected, rows, last, open, held) FACTS gp selected NAME_OF_5 "5A " rows last open held
+#define TWO_FILES DF LINEAR_29_3 "[522] [7]02 "
+#define EMPTY_AREA "1000 [4096:EE] "
+#define AREA_STAYS "_4096:1996976128"          /* 238 x (1 + .. + 4,096) */
+#define ANSWER_64 "0040 [64:EE] "
+#define AN_EVENT(kind, p1, n, data, zeros) "0104 " kind p1 "00" n data "[" zeros "] "
+
+static void calls_of_play(void)
+{
+    expect(call_gives("01" FRESH_CARD EMPTY_AREA ANSWER_64 AN_EVENT("01", "0C", "19", LOAD_INSTALL, "231"),
+                      "play_0_9000_0_" INSTALLED("00") "_4096:0_[64:EE]"), "calls: INSTALL");
+    expect(call_gives("01" INSTALLED("00") EMPTY_AREA "0041 [65:EE]" AN_EVENT("03", "00", "05", NAME, "251"),
+                      "play_0_9000_9_" INSTALLED("01") AREA_STAYS "_65:502551"),
+           "calls: SELECT");                                        /* 238 x (1 + .. + 65) - 7,959 */
+    expect(call_gives("01" INSTALLED("7F") EMPTY_AREA ANSWER_64 AN_EVENT("03", "00", "05", NAME, "251"),
+                      "play_0_9000_9_" INSTALLED("01") AREA_STAYS "_6F078405" NAME "[55:EE]"), "calls: the answer");
+    expect(call_gives("01" INSTALLED("01") EMPTY_AREA ANSWER_64 AN_EVENT("02", "00", "03", "200008", "253"),
+                      "play_0_6985_0_" IN_5A("87", "00", "0000", "0000", NONE_OPEN, "[18]") NO_TABLE NO_LOAD
+                      AREA_STAYS "_[64:EE]"), "calls: 2000 before 9484");
+}
+
+/* A card with bytes past each length, and one that breaks sound in many ways; as given, and as printed. */
+#define ODD_CARD(selected, open) FACTS "07 " selected NAME "[11:99] [7]05 CC 0000 ABCD " open \
+                                 "[18:77] [558:66] [8] [8] [7] 00030D40 [360]"
+#define ODD_IN ODD_CARD("05", "09 1234 [8:FF] [8:01] ")
+#define ODD_OUT ODD_CARD("01", NONE_OPEN)
+#define WRONG_CARD "FFFFFFFF [32] 14 07 80 [16] [8:FF] CC FFFF 1234 01 5678 [8:80] [7]12 [18:01] [558:02] 80[7] " \
+                   "[8:03] [7:04] 05060708 [288:09] [64:0A] [7]41 "
+#define WRONG_CARD_OUT "FFFFFFFF [32] 14 07 01 [16] [8:FF] CC FFFF 1234 01 0000 [8:80] [7]12 [18:01] [558:02] 80[7] " \
+                       "[8:03] [7:04] 05060708 [288:09] [64:0A] [7]41 "
+#define SELECT_RECORD AN_EVENT("03", "00", "05", NAME, "251")
+
+static void calls_refused(void)
+{
+    expect(call_gives("01" WRONG_CARD "0FFF [4095:EE] 003F [63:EE] 0000", "play_1_0000_0_" WRONG_CARD_OUT
+                      "_4095:1996001280_[63:EE]"), "calls: play 1");
+    expect(call_gives("01" WRONG_CARD EMPTY_AREA "003F [63:EE] 0000", "play_2_0000_0_" WRONG_CARD_OUT AREA_STAYS
+                      "_[63:EE]"), "calls: play 2");
+    expect(call_gives("01" WRONG_CARD EMPTY_AREA ANSWER_64 "0000", "play_6_0000_0_" WRONG_CARD_OUT AREA_STAYS
+                      "_[64:EE]"), "calls: play 6");
+    expect(call_gives("01" ODD_IN EMPTY_AREA ANSWER_64 "0000", "play_3_0000_0_" ODD_OUT AREA_STAYS "_[64:EE]"),
+           "calls: play 3");
+    expect(call_gives("01" ODD_IN EMPTY_AREA ANSWER_64 "0104 [260:09]", "play_4_0000_0_" ODD_OUT AREA_STAYS
+                      "_[64:EE]"), "calls: play 4");
+    expect(call_gives("01" ODD_IN EMPTY_AREA ANSWER_64 "0104 [260:08]", "play_5_0000_0_" ODD_OUT AREA_STAYS
+                      "_[64:EE]"), "calls: play 5");
+    expect(call_gives("02" WRONG_CARD "0000 0001 00 0000", "run_1_0_" WRONG_CARD_OUT "_-_-"), "calls: run 1");
+    expect(call_gives("02" WRONG_CARD EMPTY_AREA "0001 00 0001 1234", "run_6_0_" WRONG_CARD_OUT AREA_STAYS "_1234"),
+           "calls: run 6");
+    expect(call_gives("02" ODD_IN EMPTY_AREA "0103 [259] 0000", "run_3_0_" ODD_OUT AREA_STAYS "_-"), "calls: run 3");
+    expect(call_gives("02" ODD_IN EMPTY_AREA "0208 [520] 0001 1234", "run_11_0_" ODD_OUT AREA_STAYS "_1234"),
+           "calls: run 11");
+    expect(call_gives("03" WRONG_CARD "0000 0101", "shown_1_0_-"), "calls: shown 1");
+    expect(call_gives("03" WRONG_CARD EMPTY_AREA "0101", "shown_6_0_-"), "calls: shown 6");
+    expect(call_gives("03" ODD_IN EMPTY_AREA "0101", "shown_8_0_-"), "calls: shown 8");
+}
+
+/* Bytes past a length stay but where a name, a secret, a passed descriptor or a dropped value zeroes them. */
+static void calls_keep_bytes(void)
+{
+#define HELD "[18:77] "
+#define NO_FILES "[558:66] [8] "
+#define FILES DF LINEAR_29_3 "[522:66] [7]02 "
+#define SSNN_OPEN "02 0802 [7]01 [7]02 "
+    expect(call_gives("01" ODD_IN EMPTY_AREA ANSWER_64 SELECT_RECORD, "play_0_9000_9_" ODD_OUT AREA_STAYS
+                      "_6F078405" NAME "[55:EE]"), "calls: SELECT leaves them");
+    expect(call_gives("01" IN_5A("07", "01", "0001", "0000", NONE_OPEN, HELD) NO_FILES NO_LOAD EMPTY_AREA ANSWER_64
+                      AN_EVENT("05", "00", "00", "", "256"), "play_0_0000_0_"
+                      IN_5A("87", "00", "0001", "0000", NONE_OPEN, HELD) NO_FILES NO_LOAD AREA_STAYS "_[64:EE]"),
+           "calls: a lock with nothing open leaves the held bytes");
+    expect(call_gives("01" IN_5A("07", "01", "0010", "0000", SSNN_OPEN, HELD) FILES NO_LOAD EMPTY_AREA ANSWER_64
+                      AN_EVENT("05", "00", "00", "", "256"), "play_0_0000_0_"
+                      IN_5A("87", "00", "0010", "0000", NONE_OPEN, "[18]") FILES NO_LOAD AREA_STAYS "_[64:EE]"),
+           "calls: a dropped value doesn't");
+    expect(call_gives("01" IN_5A("07", "01", "0010", "0000", SSNN_OPEN, HELD) FILES NO_LOAD "1000 [4096] " ANSWER_64
+                      AN_EVENT("02", "00", "02", "A1A2", "254"), "play_0_9000_0_"
+                      IN_5A("07", "01", "0410", "0802", NONE_OPEN, HELD) FILES NO_LOAD "_4096:10175_[64:EE]"),
+           "calls: an ssnn that comes to its end leaves them");     /* 31 x 161 + 32 x 162 */
+    expect(call_gives("01" IN_5A("07", "01", "0007", "FFFF", NONE_OPEN, HELD) NO_FILES NO_LOAD EMPTY_AREA ANSWER_64
+                      AN_EVENT("02", "00", "05", "310024 3F00", "251"), "play_0_9000_0_"
+                      IN_5A("07", "01", "0007", "FFFF", "01 0000 [7]02 [7]22 ", "3F00 [16:77]") NO_FILES NO_LOAD
+                      AREA_STAYS "_[64:EE]"), "calls: 3100 opens over them");
+    expect(call_gives("01" IN_5A("07", "01", "0007", "0000", "01 0000 [7]02 [7]22 ", "3F00 [16:77]") NO_FILES NO_LOAD
+                      EMPTY_AREA ANSWER_64 AN_EVENT("02", "00", "11", "00020000 [12] 20", "239"), "play_0_9000_0_"
+                      IN_5A("07", "01", "0007", "0000", "01 0000 [7]01 [7]11 ", "20 [17]") DF "[540:66] [7]01" NO_LOAD
+                      AREA_STAYS "_[64:EE]"), "calls: a descriptor that passes zeroes them");
+    expect(call_gives("01" IN_5A("07", "01", "0017", "0000", NONE_OPEN, "[18]") FILES
+                      "[8] [7] 00030D40 [64:55] [8] [288]" EMPTY_AREA ANSWER_64
+                      AN_EVENT("02", "00", "05", "380002 A801", "251"), "play_0_9000_0_"
+                      IN_5A("07", "01", "0037", "0000", NONE_OPEN, "[18]") FILES
+                      "[8] [7] 00030D40 A801 [62] [7]02 [288]" AREA_STAYS "_[64:EE]"),
+           "calls: a secret zeroes its own");
+}
+
+/* SELECT, a record of kind 0, DESELECT; words past the third stay. */
+static void calls_of_run(void)
+{
+    expect(call_gives("02" INSTALLED("00") EMPTY_AREA "030C 03000005" NAME "[251] [260] 05[259] 0004 1111222233334444",
+                      "run_0_3_" INSTALLED("00") AREA_STAYS "_9000000000004444"), "calls: run");
+    expect(call_gives("02" INSTALLED("00") EMPTY_AREA "0104 03000005" NAME "[251] 0021 [66:01]",
+                      "run_0_1_" INSTALLED("01") AREA_STAYS "_66:2352"), "calls: 33 words");    /* 2,211 + 143 - 2 */
+    expect(call_gives("02" INSTALLED("00") EMPTY_AREA "0000 0000", "run_0_0_" INSTALLED("00") AREA_STAYS "_-"),
+           "calls: a session of 0 bytes");
+}
+
+#define PERSONALIZED(count) FACTS "07 01" NAME_OF_5 "A5 0010 0000 " NONE_OPEN "[18] " DF LINEAR_29_3 BINARY_300 \
+                            "[504:66]" count NO_LOAD
+
+static void calls_of_shown(void)
+{
+#define THREE_RECORDS "1000 [29:11] [29:22] [29:33] [300:44] [3709:EE] "
+    expect(call_gives("03" PERSONALIZED("[7]03") THREE_RECORDS "0802", "shown_0_29_[29:22]"), "calls: shown");
+    expect(call_gives("03" PERSONALIZED("[7]03") THREE_RECORDS "0803", "shown_0_58_[29:33]"), "calls: the last");
+    expect(call_gives("03" PERSONALIZED("[7]03") THREE_RECORDS "0804", "shown_8_0_-"), "calls: one past it");
+    expect(call_gives("03" PERSONALIZED("[7]03") THREE_RECORDS "0A00", "shown_0_87_300:3070200"),
+           "calls: a binary file");                                 /* 68 x (1 + .. + 300) */
+    expect(call_gives("03" PERSONALIZED("[7]02") THREE_RECORDS "0A00", "shown_8_0_-"), "calls: one past the count");
+    expect(call_gives("03" PERSONALIZED("[6]0103") THREE_RECORDS "0802", "shown_6_0_-"), "calls: 259 descriptors");
+    expect(call_gives("03" PERSONALIZED("00000001[3]03") THREE_RECORDS "0802", "shown_6_0_-"),
+           "calls: 2^32 + 3 descriptors");
+}
+
+static void calls_of_count_and_fresh(void)
+{
+    expect(calls_give("04 FFFF 04 0000 04 0417", "count_16\ncount_0\ncount_5", "\nEND 3\n"), "calls: count");
+    expect(call_gives("05 0028" FACTS "000000", "fresh_0_" FRESH_CARD), "calls: fresh");
+#define ZERO_CARD "[39] [16] [8] CC 0000 0000 " NONE_OPEN "[18] " NO_TABLE NO_LOAD
+    expect(call_gives("05 0027" FACTS "0000", "fresh_7_" ZERO_CARD), "calls: fresh of 39 bytes");
+    expect(call_gives("05 0029" FACTS "00000000", "fresh_7_" ZERO_CARD), "calls: fresh of 41 bytes");
+    expect(call_gives("05 0028" FACTS "000001", "fresh_7_" ZERO_CARD), "calls: fresh with a last byte");
+    expect(call_gives("05 0000", "fresh_7_" ZERO_CARD), "calls: fresh of nothing");
+    expect(call_gives("05 0028 [40]", "fresh_0_" ZERO_CARD), "calls: fresh of zeros");
+}
+
+/* An order of 150 bytes in two records: room of 521 bytes keeps its last. */
+static void calls_of_write(void)
+{
+    static u8 room[2 * RECORD];
+    char line[60];
+    u64 sum = 521 * 0xEE;
+    u32 i;
+    bytes_of(room, "02 01 00 03 948400");
+    bytes_of(room + RECORD, "02 80 00 96" ORDER_HEX);
+    for (i = 0; i < sizeof room; i++)
+        sum += (u64)(i + 1) * room[i];
+    sprintf(line, "write_0_2_521:%llu", sum);
+    expect(call_gives("06 0028" FACTS "000000 0096" ORDER_HEX "0209 [521:EE]", line), "calls: write");
+    expect(call_gives("06 0028" FACTS "000000 0096" ORDER_HEX "0207 [519:EE]", "write_11_0_519:32115720"),
+           "calls: write 11");                                      /* 238 x (1 + .. + 519) */
+    expect(call_gives("06 0028" FACTS "000000 0095 200008[146] 0000", "write_10_0_-"), "calls: write 10");
+    expect(call_gives("06 0028" FACTS "000000 2001 [8193] 0001 EE", "write_9_0_EE"), "calls: write 9");
+    expect(call_gives("06 0028" FACTS "000100 2001 [8193] 0001 EE", "write_7_0_EE"), "calls: write 7");
+}
+
+static void calls_of_pull(void)
+{
+#define THREE_GROUPINGS "07 000E 2000 02 0A0B 1234 FF0000 5678 03 AA "
+    expect(call_gives(THREE_GROUPINGS "[8]", "pull_0_2000_3_5_0A0B"), "calls: pull");
+    expect(call_gives(THREE_GROUPINGS "[7]05", "pull_0_1234_10_10_-"), "calls: pull of an empty value");
+    expect(call_gives(THREE_GROUPINGS "[7]0A", "pull_2_0000_0_10_-"), "calls: a value not whole");
+    expect(call_gives(THREE_GROUPINGS "[7]0C", "pull_2_0000_0_12_-"), "calls: a header not whole");
+    expect(call_gives(THREE_GROUPINGS "[7]0E", "pull_1_0000_0_14_-"), "calls: at the end");
+    expect(call_gives(THREE_GROUPINGS "00000001[4]", "pull_1_0000_0_4294967296_-"), "calls: past 32 bits");
+    expect(call_gives(THREE_GROUPINGS "[8:FF]", "pull_1_0000_0_18446744073709551615_-"), "calls: the last place");
+    expect(call_gives("07 0000 [8]", "pull_1_0000_0_0_-"), "calls: of nothing");
+    expect(call_gives("07 0006 2000FFFFFF00 [8]", "pull_2_0000_0_0_-"), "calls: FFFF");
+    expect(call_gives("07 0046 FFFF FF0041 [65:01] [8]", "pull_0_FFFF_5_70_65:2145"), "calls: a value of 65");
+    expect(call_gives("07 0043 0001 40 [64:01] [8]", "pull_0_0001_3_67_[64:01]"), "calls: a value of 64");
+}
+
+/* These calls give these lines and no END; what is said names a number. */
+static flag calls_stop(const char *in, const char *lines, const char *number)
+{
+    static char hex[60000], text[1000];
+    static u8 bytes[30000];
+    static struct mode_run m;
+    u32 n;
+    expand(hex, in);
+    n = bytes_of(bytes, hex);
+    expand(text, lines);
+    run_child("calls", bytes, n, &m);
+    return m.status == 2 && wrote(&m, text) && strstr(m.said, number) != NULL;
+}
+
+static void calls_that_are_none(void)
+{
+    expect(calls_give("", "", "END 0\n"), "calls: none at all");
+    expect(calls_stop("00", "", "1"), "calls: of byte 0");
+    expect(calls_stop("04 0001 08", "count_1\n", "2"), "calls: of byte 8");
+    expect(calls_stop("04 0001 04 0003 04 00", "count_1\ncount_2\n", "3"), "calls: torn");
+    expect(calls_stop("05", "", "1") && calls_stop("05 0028 [39]", "", "1"), "calls: torn memory");
+    expect(calls_stop("07 30C1 [12481] [8]", "", "1"), "calls: memory that is too long");
+    expect(call_gives("07 30C0 [12480] [8]", "pull_0_0000_3_3_-"), "calls: the longest");
+    expect(calls_stop("02" FRESH_CARD "0000 0000 0041 [130]", "", "1"), "calls: words that are too many");
+    expect(call_gives("02" FRESH_CARD "0000 0000 0040 [128]", "run_1_0_" FRESH_CARD "_-_128:0"), "calls: 64 words");
+    expect(calls_stop("01 [1049]", "", "1"), "calls: a torn card");
+}
+
+/* `second calls` from a file (or folder) to a file. */
+static int calls_status(const char *from, const char *to)
+{
+    int status = 0;
+    pid_t child;
+    fflush(stdout);
+    child = fork();
+    if (child == 0) {
+        int in = open(from, O_RDONLY), out = open(to, O_WRONLY | O_CREAT | O_TRUNC, 0666);
+        if (in < 0 || out < 0 || dup2(in, 0) < 0 || dup2(out, 1) < 0 || freopen("/dev/null", "w", stderr) == NULL)
+            _exit(99);
+        _exit(calls(2, 0));
+    }
+    waitpid(child, &status, 0);
+    return WIFEXITED(status) ? WEXITSTATUS(status) : 100;
+}
+
+/* `second generatecalls` in a child, for it keeps what it counts. */
+static int generate_status(const char *number, const char *count, const char *to)
+{
+    char mode[] = "generatecalls", seed[20], n[20], path[200], *argv[5] = { mode, mode, seed, n, path };
+    int status = 0;
+    pid_t child;
+    snprintf(seed, sizeof seed, "%s", number);
+    snprintf(n, sizeof n, "%s", count);
+    snprintf(path, sizeof path, "%s", to);
+    fflush(stdout);
+    child = fork();
+    if (child == 0) {
+        if (freopen("/dev/null", "w", stdout) == NULL || freopen("/dev/null", "w", stderr) == NULL)
+            _exit(99);
+        _exit(generatecalls(5, argv));
+    }
+    waitpid(child, &status, 0);
+    return WIFEXITED(status) ? WEXITSTATUS(status) : 100;
+}
+
+static flag same_files(const char *a, const char *b)
+{
+    FILE *x = fopen(a, "rb"), *y = fopen(b, "rb");
+    int c = 0, d = 0;
+    while (x != NULL && y != NULL && c == d && c != EOF) {
+        c = getc(x);
+        d = getc(y);
+    }
+    if (x != NULL)
+        fclose(x);
+    if (y != NULL)
+        fclose(y);
+    return c == EOF && d == EOF;
+}
+
+static flag ends_with(const char *path, const char *text)
+{
+    char bytes[100] = "";
+    FILE *f = fopen(path, "rb");
+    flag good = f != NULL && fseek(f, -(long)strlen(text), SEEK_END) == 0 &&
+                fread(bytes, 1, strlen(text), f) == strlen(text);
+    if (f != NULL)
+        fclose(f);
+    return good && strcmp(bytes, text) == 0;
+}
+
+static void generated_calls(void)
+{
+    static char calls_folder[] = "/tmp/second-calls-XXXXXX";
+    int here = open(".", O_RDONLY);
+    if (here < 0 || mkdtemp(calls_folder) == NULL || chdir(calls_folder) != 0) {
+        perror(calls_folder);
+        exit(1);
+    }
+    expect(generate_status("1", "1000", "a") == 0, "generatecalls: every number comes within 1,000");
+    expect(generate_status("1", "1000", "b") == 0 && same_files("a", "b"), "generatecalls: the same by its seed");
+    expect(generate_status("2", "1000", "b") == 0 && !same_files("a", "b"), "generatecalls: another by another");
+    expect(generate_status("1", "10", "b") == 0, "generatecalls: few calls");
+    expect(generate_status("1", "10", "/dev/full") == 2, "generatecalls: a file that cannot be written");
+    expect(generate_status("1", "10", "none/b") == 2, "generatecalls: no such folder");
+    expect(calls_status("a", "lines") == 0 && ends_with("lines", "\nEND 1000\n"), "calls: generated ones");
+    expect(calls_status("a", "/dev/full") == 2, "calls: output that cannot be written");
+    expect(calls_status("/", "lines") == 2, "calls: input that cannot be read");
+    if (fchdir(here) != 0)
+        perror("fchdir");
+    close(here);
+    empty_folder(calls_folder);
+}
+
+static void stored_calls(void)
+{
+    calls_of_play();
+    calls_refused();
+    calls_keep_bytes();
+    calls_of_run();
+    calls_of_shown();
+    calls_of_count_and_fresh();
+    calls_of_write();
+    calls_of_pull();
+    calls_that_are_none();
+    generated_calls();
+}
+
 int selftest(void)
 {
     example_1();
@@ -1405,6 +1768,7 @@ int selftest(void)
     stopping_places();
     texts();
     lots();
+    stored_calls();
     if (failures != 0) {
         printf("second: %u of %u tests failed\n", failures, tests);
         return 1;
