@@ -2,9 +2,7 @@
 use model::Head;
 use model::Header;
 ghost use mathlib.Core.Path.{_≡_};
-ghost use mathlib.Core.Bool.{_&&_};
 ghost use Prim.Native.Nat.{_+_, _≤_};
-ghost use lib.Dec.{leb};
 ghost use lib.ListN.{length, drop};
 ghost use Rattle.model.specs.Order.{cutOf, spannable};
 ghost use Rattle.order_cuts.specs.Portions.{unitPortion, groupingPortion, portionOf};
@@ -12,10 +10,6 @@ ghost use Rattle.order_cuts.specs.Cuts.{Fitting, cuttable, unitsFrom, Co
 
 // A command's most data bytes.
 const DATA_ROOM: usize = 255;
-
-const FIRST_RECORD_TAG: u16 = 0x0100;
-
-const LAST_RECORD_TAG: u16 = 0x1EFF;
 
 // Where a cutter stands: a place of the order, and how many bytes of a spannable value are still to come there.
 pub struct Place {
@@ -30,21 +24,11 @@ pub struct Portion {
     pub inside: usize,
 }
 
-// The tag of a record: most groupings of an order have one.
-fn is_record(tag: u16) -> bool
-    ensures { λ r. ⌜ r ≡ (leb 0x0100 tag && leb tag 0x1EFF) ⌝ }
-{
-    if tag < FIRST_RECORD_TAG {
-        return false;
-    }
-    tag <= LAST_RECORD_TAG
-}
-
-// The value of a tag may run into the next command; an unknown tag's may not.
+// The value of a tag may run into the next command; an unknown tag's may not. Most groupings of an order are records.
 fn is_spannable(tag: u16) -> bool
     ensures { λ r. ⌜ r ≡ spannable tag ⌝ }
 {
-    if is_record(tag) {
+    if row_table::is_record(tag) {
         return true;
     }
     let r = row_table::row_of(tag);
