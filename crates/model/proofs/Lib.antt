@@ -5,3 +5,7 @@ pub mod Computed
 pub mod Examples
 pub mod Witnesses
 pub mod Twins
+pub mod Tables
+pub mod FormWitnesses
+pub mod RowWitnesses
+pub mod HeaderWitnesses
