@@ -9,3 +9,7 @@ pub mod Tables
 pub mod FormWitnesses
 pub mod RowWitnesses
 pub mod HeaderWitnesses
+pub mod DescriptorWitnesses
+pub mod PlaceWitnesses
+pub mod Cards
+pub mod LifeWitnesses

@@ -1,4 +1,4 @@
--- "The eleven-row table", computed: each row's tags, marks and lengths, both sides of each tag, and when a row may come.
+-- "The eleven-row table", computed: tags at both sides, marks and lengths of each row, and when a row may come.
 use Prim.Native.Nat.{ℕ}
 use mathlib.Core.Bool.{Bool, true, not}
 use mathlib.Core.List.{List, [], _∷_}

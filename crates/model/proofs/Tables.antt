@@ -20,6 +20,7 @@ use Rattle.model.specs.declared.Verdict.{Verdict}
 use Rattle.model.specs.declared.Verdict.the-variants.{Passes, Refuses}
 use Rattle.model.specs.declared.Pulled.{Pulled}
 use Rattle.model.specs.declared.Pulled.the-variants.{Ended, Broken, Grouping}
+use Rattle.model.specs.Table.{descriptorOf}
 use Rattle.model.proofs.Computed.{computed}
 use Rattle.model.proofs.Scenes.{Bytes}
 
@@ -75,6 +76,10 @@ fileNumbers d =
     d .lid ∷ d .sfi ∷ d .filetype ∷ d .eftype ∷ d .recsize ∷ d .numrec ∷ d .ac ++ d .nkey ++ d .refsfi ∷ d .refnum
     ∷ d .status ∷ []
 
+unfoldable pub filesOf : List Bytes → List Descriptor
+filesOf [] = []
+filesOf (b ∷ bs) = descriptorOf b ∷ filesOf bs
+
 unfoldable pub filesNumbers : List Descriptor → List ℕ
 filesNumbers [] = []
 filesNumbers (d ∷ ds) = fileNumbers d ++ filesNumbers ds
@@ -101,5 +106,6 @@ cardNumbers c = chipNumbers (c .chip) ++ lifeNumbers (c .life) ++ loadingNumbers
 
 -- everything that computing a table has to open
 unfoldable pub tabled : Unit {0}
-unfolding computed every rising filesNumbers secretsNumbers chipNumbers lifeNumbers loadingNumbers cardNumbers
+unfolding computed every rising filesOf filesNumbers secretsNumbers chipNumbers lifeNumbers loadingNumbers
+    cardNumbers
 tabled = tt
