@@ -13,3 +13,5 @@ pub mod DescriptorWitnesses
 pub mod PlaceWitnesses
 pub mod Cards
 pub mod LifeWitnesses
+pub mod InstallWitnesses
+pub mod AnswerWitnesses
