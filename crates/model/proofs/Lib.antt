@@ -15,3 +15,5 @@ pub mod Cards
 pub mod LifeWitnesses
 pub mod InstallWitnesses
 pub mod AnswerWitnesses
+pub mod SoundWitnesses
+pub mod OpenSoundWitnesses
