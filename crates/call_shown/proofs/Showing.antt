@@ -1,37 +1,29 @@
 -- A stored record shown, by the tests.
-use Prim.Native.Nat.{ℕ, _+_, _-_}
-use mathlib.Core.Path.{_≡_, refl}
+use Prim.Native.Nat.{ℕ}
+use mathlib.Core.Path.{_≡_}
 use mathlib.Core.Bool.{true, false}
-use mathlib.Core.List.{List, []}
-use native.Mathlib.Nat.{add-sub-cancel-left}
-use lib.ListN.{length, take, drop}
+use mathlib.Core.List.{List}
+use lib.ListN.{length}
 use borrow.Author.Tests.{eq-eqb, ne-eqb}
 use Rattle.model.specs.declared.Card.{Card}
 use Rattle.model.specs.declared.Spot.{Spot}
-use Rattle.model.specs.declared.Spot.the-variants.{At}
+use Rattle.model.specs.Stored.{areaSize}
 use Rattle.model.specs.Table.{spotOf}
 use Rattle.model.specs.Loads.{fileList}
 use Rattle.model.specs.Sound.{sound}
-use Rattle.model.specs.Session.{shownAt, shownOf}
-use Rattle.call_shown.specs.Shows.{Shows}
+use Rattle.model.specs.Session.{unshown, shownAt, shownOf}
 
 module _ (c : Card) (a : List ℕ) (sfi nn : ℕ) where
-  pub shown-1 : (length a ≡ 4096 → ⊥) → Shows (shownOf c a sfi nn) 1 []
+  pub shown-1 : (length a ≡ areaSize → ⊥) → unshown 1 ≡ shownOf c a sfi nn
   unfolding shownOf
-  shown-1 h = rw (ne-eqb _ _ h) (record { numbers = refl; shows = refl })
+  shown-1 h = rw (ne-eqb _ _ h)
 
-  pub shown-6 : length a ≡ 4096 → sound c ≡ false → Shows (shownOf c a sfi nn) 6 []
+  pub shown-6 : length a ≡ areaSize → sound c ≡ false → unshown 6 ≡ shownOf c a sfi nn
   unfolding shownOf
-  shown-6 e h = rw (eq-eqb _ _ e, h) (record { numbers = refl; shows = refl })
+  shown-6 e h = rw (eq-eqb _ _ e, h)
 
   -- past both, what is at the record's place
-  pub spot-shown : (x : Spot) → length a ≡ 4096 → sound c ≡ true → spotOf (fileList (c .loading)) sfi nn ≡ x
-      → Shows (shownOf c a sfi nn) (shownAt x a .number) (shownAt x a .bytes)
+  pub spot-shown : (x : Spot) → length a ≡ areaSize → sound c ≡ true → spotOf (fileList (c .loading)) sfi nn ≡ x
+      → shownAt x ≡ shownOf c a sfi nn
   unfolding shownOf
-  spot-shown x e h p = rw (eq-eqb _ _ e, h, p) (record { numbers = refl; shows = refl })
-
-  -- the part, as it is taken
-  pub part-shown : (base size : ℕ) → length a ≡ 4096 → sound c ≡ true
-      → spotOf (fileList (c .loading)) sfi nn ≡ At base size
-      → Shows (shownOf c a sfi nn) 0 (take (base + size - base) (drop base a))
-  part-shown base size e h p = rw (add-sub-cancel-left base size) (spot-shown (At base size) e h p)
+  spot-shown x e h p = rw (eq-eqb _ _ e, h, p)

@@ -1,18 +1,28 @@
 // A file's record, shown as the part of the file area where it is stored.
 use model::AREA_SIZE;
 use model::Card;
+use model::Shown;
 use model::Spot;
 ghost use mathlib.Core.Path.{_≡_};
-ghost use Rattle.model.specs.Session.{shownOf};
-ghost use Rattle.call_shown.specs.Shows.{Shows};
+ghost use Rattle.model.specs.Session.{unshown, shownOf, partShown};
+
+// Nothing is shown, by a number.
+fn unshown(number: u8) -> Shown
+    ensures { λ r. ⌜ r ≡ unshown number ⌝ }
+{
+    Shown {
+        number: number,
+        start: 0,
+        len: 0,
+    }
+}
 
 // A file's record, as the part of the file area where it is stored: 1, 6, 8 are checked in this order.
-pub fn shown<'a>(c: Card, area: &'a [u8], sfi: u8, nn: u8, number: &mut u8) -> &'a [u8]
-    ensures { λ r. ⌜ Shows (shownOf c (now (area .entry)) sfi nn) (now (number .exit)) (now r) ⌝ }
+pub fn shown(c: Card, area: &[u8], sfi: u8, nn: u8) -> Shown
+    ensures { λ r. ⌜ r ≡ shownOf c (now (area .entry)) sfi nn ⌝ }
 {
     if area.len() != AREA_SIZE {
-        *number = 1;
-        return &area[..0];
+        return unshown(1);
     }
     if sound_card::is_sound(c) {
         let l = c.loading;
@@ -20,15 +30,21 @@ pub fn shown<'a>(c: Card, area: &'a [u8], sfi: u8, nn: u8, number: &mut u8) -> &
         let spot = table_places::spot_of(files, l.count, sfi, nn);
         match spot {
             Spot::At { base, size } => {
-                *number = 0;
-                return &area[base..base + size];
+                return Shown {
+                    number: 0,
+                    start: base,
+                    len: size,
+                };
             }
-            Spot::Nowhere => {
-                *number = 8;
-                return &area[..0];
-            }
+            Spot::Nowhere => return unshown(8),
         }
     }
-    *number = 6;
-    &area[..0]
+    unshown(6)
+}
+
+// That part of the file area, as far as it goes.
+pub fn part_shown(area: &[u8], s: Shown) -> &[u8]
+    ensures { λ r. ⌜ now r ≡ partShown (now (area .entry)) s ⌝ }
+{
+    memory::part_of(area, s.start, s.len)
 }

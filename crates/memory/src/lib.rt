@@ -2,7 +2,7 @@
 ghost use mathlib.Core.Path.{_≡_};
 ghost use Prim.Native.Nat.{_+_, _≤_, _*_, _<_, min};
 ghost use lib.ListN.{length, drop};
-ghost use Rattle.lists.specs.Bytes.{zeros, allZero, padded};
+ghost use Rattle.lists.specs.Bytes.{part, zeros, allZero, padded};
 ghost use Rattle.lists.specs.Over.{overwrite};
 
 // `src` over the front of `dst`.
@@ -34,6 +34,15 @@ pub fn clear(dst: &mut [u8])
         dst[i] = 0;
         i += 1;
     }
+}
+
+// A part of lent bytes, as far as they go.
+pub fn part_of(s: &[u8], start: usize, len: usize) -> &[u8]
+    ensures { λ r. ⌜ now r ≡ part (now (s .entry)) start len ⌝ }
+{
+    let from = least(start, s.len());
+    let end = from + least(len, s.len() - from);
+    &s[from..end]
 }
 
 // A byte as a count.

@@ -20,21 +20,8 @@ use Rattle.model.specs.declared.Verdict.the-variants.{Passes, Refuses}
 use Rattle.model.specs.Rows.{rowAt, rowOf, due, descriptorSize}
 use Rattle.model.specs.Header.{headerOf}
 use Rattle.model.specs.Table.{descriptorOf, admitOf, spotOf}
-use Rattle.model.specs.Loads.{
-  State,
-  fileList,
-  withInternal,
-  withTaken,
-  withLast,
-  withOpen,
-  withNoneOpen,
-  withFile,
-  withSerial,
-  withStartup,
-  withCounter,
-  withSecret,
-  changed,
-}
+use Rattle.model.specs.Loads.{State, fileList, withInternal, withTaken, withLast, withOpen, withNoneOpen}
+use Rattle.model.specs.Loads.{withFile, withSerial, withStartup, withCounter, withSecret, changed}
 
 infixl 10 _>>=_
 infixl 10 _>>_

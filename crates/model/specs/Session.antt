@@ -8,20 +8,11 @@ use lib.ListN.{length, take, drop}
 use Rattle.lists.specs.Bytes.{byteAt, part, zeros}
 use Rattle.model.specs.declared.Card.{Card}
 use Rattle.model.specs.declared.Made.{Made}
+use Rattle.model.specs.declared.Shown.{Shown}
 use Rattle.model.specs.declared.Spot.{Spot}
 use Rattle.model.specs.declared.Spot.the-variants.{Nowhere, At}
-use Rattle.model.specs.Stored.{
-  chipSize,
-  chipOf,
-  chipForm,
-  freshCard,
-  recordSize,
-  eventIn,
-  isKind,
-  paddedZero,
-  areaSize,
-  answerRoom,
-}
+use Rattle.model.specs.Stored.{chipSize, chipOf, chipForm, freshCard, recordSize, eventIn, isKind, paddedZero}
+use Rattle.model.specs.Stored.{areaSize, answerRoom}
 use Rattle.model.specs.Table.{spotOf}
 use Rattle.model.specs.Loads.{fileList}
 use Rattle.model.specs.Events.{Reply, event}
@@ -110,19 +101,23 @@ runOf c a room bytes =
           (recordsIn (eventsIn bytes) bytes);
     }))))
 
--- "a file's record, shown as the part of the file area where it is stored (a binary file whole, record 0)"
-pub record Shown : Type 0 where
-  pub number : ℕ
-  pub bytes : List ℕ
+-- "an empty part"
+abbrev pub unshown : ℕ → Shown
+unshown n = record { number = n; start = 0; len = 0 }
 
--- "8: SFI 0, no such SFI or record, or no stored bytes: an empty part"
-abbrev pub shownAt : Spot → List ℕ → Shown
-shownAt Nowhere a = record { number = 8; bytes = [] }
-shownAt (At base size) a = record { number = 0; bytes = part a base size }
+-- "a file's record, shown as the part of the file area where it is stored (a binary file whole, record 0)"; "8: SFI 0,
+-- no such SFI or record, or no stored bytes"
+abbrev pub shownAt : Spot → Shown
+shownAt Nowhere = unshown 8
+shownAt (At base size) = record { number = 0; start = base; len = size }
 
 -- "shown record 1, 6, 8"
 unfoldable pub shownOf : Card → List ℕ → ℕ → ℕ → Shown
 shownOf c a sfi nn =
-    cond (not (eqb (length a) areaSize)) (record { number = 1; bytes = [] })
-    (cond (not (sound c)) (record { number = 6; bytes = [] })
-    (shownAt (spotOf (fileList (c .loading)) sfi nn) a))
+    cond (not (eqb (length a) areaSize)) (unshown 1)
+    (cond (not (sound c)) (unshown 6)
+    (shownAt (spotOf (fileList (c .loading)) sfi nn)))
+
+-- that part of the file area
+abbrev pub partShown : List ℕ → Shown → List ℕ
+partShown a s = part a (s .start) (s .len)

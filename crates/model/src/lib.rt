@@ -181,6 +181,13 @@ pub struct Written {
     pub count: usize,
 }
 
+// A shown record: its part of the file area, by place and length.
+pub struct Shown {
+    pub number: u8,
+    pub start: usize,
+    pub len: usize,
+}
+
 // One pull of the order's reader: a grouping, or which of the two endings.
 pub enum Pulled {
     Ended,

@@ -1,5 +1,5 @@
 -- What a pull gives, by what stands at its place.
-use Prim.Native.Nat.{ℕ, _+_, _-_, _≤_, _<_, min}
+use Prim.Native.Nat.{ℕ, _+_, _-_, _≤_, _<_}
 use mathlib.Core.Path.{_≡_, sym, ap, subst}
 use mathlib.Core.List.{List}
 use lib.ListN.{length, take, drop, length-drop}
@@ -7,7 +7,6 @@ use native.Mathlib.Omega.{arith}
 use lib.Dec.{leb}
 use borrow.Author.Tests.{le-leb, lt-leb, leb-true}
 use Rattle.lists.specs.Bytes.{part}
-use Rattle.lists.specs.Least.{drop-least, part-least}
 use Rattle.lists.specs.Choice.{by-cond}
 use Rattle.model.specs.declared.Head.{Head}
 use Rattle.model.specs.declared.Header.{Header}
@@ -73,11 +72,3 @@ grouping-inside order at tag start len e = subst (Inside (length order)) (sym e)
 pub found-so : (order : List ℕ) (at : ℕ) (p : Pulled) → p ≡ pullOf order at → foundBy p at ≡ foundAt order at
 unfolding foundAt
 found-so order at p e = rw e
-
--- a part, as far as the order goes
-pub part-so : (order : List ℕ) (start len from n : ℕ) → from ≡ min start (length order)
-    → n ≡ min len (length order - from)
-    → take (from + n - from) (drop from order) ≡ part order start len
-part-so order start len from n e f =
-    let g : from + n - from ≡ min len (length order - from) = omega arith in
-    rw (g, part-least order from len) (ap (λ (l : List ℕ). take len l) (rw e (drop-least start order)))

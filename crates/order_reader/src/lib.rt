@@ -78,9 +78,7 @@ pub fn found_at(order: &[u8], at: usize) -> Found
 pub fn value_of(order: &[u8], found: Found) -> &[u8]
     ensures { λ r. ⌜ now r ≡ valueOf (now (order .entry)) found ⌝ }
 {
-    let start = memory::least(found.start, order.len());
-    let end = start + memory::least(found.len, order.len() - start);
-    &order[start..end]
+    memory::part_of(order, found.start, found.len)
 }
 
 // A reader keeps the lent order and its place.
