@@ -16,21 +16,8 @@ use Rattle.model.specs.Session.{turnOf, playOf, freshOf, recordsIn, eventsIn}
 use Rattle.model.specs.Lines.{five, blank, lineFeed, lineWith, lineOf, endOf, linesFrom, replayOf}
 use Rattle.theorem_sound.specs.Keeps.{Good}
 use Rattle.theorem_sound.proofs.Sessions.{turn-keeps, fresh-keeps}
-use Rattle.register_entries.specs.Entries.{
-  Register,
-  begun,
-  counted,
-  entry,
-  entries,
-  enteredOf,
-  behind,
-  goesOn,
-  printed,
-  Enters,
-  Whole,
-  none,
-  more,
-}
+use Rattle.register_entries.specs.Entries.{Register, begun, counted, entry, entries, enteredOf, behind, goesOn}
+use Rattle.register_entries.specs.Entries.{printed, Enters, Whole, none, more}
 use Rattle.register_entries.proofs.Entries.{entries-append, lines-sized}
 
 -- of a sound card and a whole record the calls' other numbers are out of reach

@@ -131,7 +131,7 @@ pub fn enter_all(
                     start,
                     end: stop,
                 } => {
-                    memory::lay(&mut area[to..], &d[start..stop]);
+                    memory::lay(&mut area[to..to + (stop - start)], &d[start..stop]);
                     at = stop;
                 }
                 Course::Keeps {

@@ -76,7 +76,7 @@ pub fn walked(
         let course = s.course;
         match course {
             Course::Lays { to, start, end } => {
-                memory::lay(&mut area[to..], &d[start..end]);
+                memory::lay(&mut area[to..to + (end - start)], &d[start..end]);
                 i = end;
             }
             Course::Keeps { row, start, end } => {

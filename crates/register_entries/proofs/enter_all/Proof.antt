@@ -12,6 +12,7 @@ use Rattle.register_entries.proofs.enter_all.Tie as tie
 use Rattle.model.specs.Stored.{areaSize}
 use Rattle.table_places.specs.Scans.{Scanning}
 use Rattle.table_places.proofs.Scans.{scan-begins, scan-more, scan-found, scan-ends}
+use Rattle.walk_course.specs.Lengths.{Sized}
 use Rattle.walk_course.specs.Steps.{stateOf}
 use Rattle.walk_step.specs.Paces.{onward, Paced}
 use Rattle.walk_command.proofs.Owner.{Pacing}
@@ -29,18 +30,8 @@ use Rattle.walk_step.specs.Turns.{wantedTag}
 use Rattle.walk_command.specs.declared.End.{End}
 use Rattle.walk_command.specs.declared.End.the-variants as end
 use Rattle.walk_command.specs.Ends.{Walked}
-use Rattle.walk_command.proofs.Owner.{
-  Going,
-  GoesOn,
-  Turn,
-  turned,
-  goes-now,
-  paces-on,
-  ended-so,
-  reaches,
-  spot-within,
-  spot-fits,
-}
+use Rattle.walk_command.proofs.Owner.{Going, GoesOn, Turn, turned, goes-now, paces-on, ended-so, reaches, spot-within}
+use Rattle.walk_command.proofs.Owner.{spot-fits}
 use Rattle.event_replies.specs.Lives.{isCommand}
 use Rattle.event_replies.proofs.Named.{good-steady}
 use Rattle.event_replies.proofs.ByKind.{command-selected, command-data}
@@ -182,17 +173,18 @@ Kept s e at l a =
     .load) × (a ≡ s .before .before .before .before .before .before .before .before .before .loop .area))
     × (length a ≡ areaSize)
 
+-- a step's record
+abbrev its : tie.After-step-at Inv-loop3 μ-loop3 Inv-loop2 μ-loop2 Inv-loop μ-loop
+    → tie.After-span Inv-loop3 μ-loop3 Inv-loop2 μ-loop2 Inv-loop μ-loop
+its c = c .before .before .before .before .before .before .before .before
+
 goes : (c : tie.After-step-at Inv-loop3 μ-loop3 Inv-loop2 μ-loop2 Inv-loop μ-loop) (to place : ℕ) (l : Loading)
     (a : List ℕ)
-    → Going (card (c .before .before .before .before .before .before .before .before) .chip .capacity)
-    (byteAt (rec (c .before .before .before .before .before .before .before .before)) 1)
-    (dat (c .before .before .before .before .before .before .before .before))
-    (whence (c .before .before .before .before .before .before .before .before)) to place l a
-    → Kept (c .before .before .before .before .before .before .before .before)
-    (c .before .before .before .before .before .before .before .loop2 .end) to l a
+    → Going (card (its c) .chip .capacity) (byteAt (rec (its c)) 1) (dat (its c)) (whence (its c)) to place l a
+    → Kept (its c) (c .before .before .before .before .before .before .before .loop2 .end) to l a
 goes c to place l a g =
     let b = c .before .before .before .before .before .before .before .loop2 in
-    let s = c .before .before .before .before .before .before .before .before in
+    let s = its c in
     let h = left (c .before .before .before .before .before .before) in (
       λ i. paces-on (card s .chip .capacity) (byteAt (rec s) 1) (dat s) (whence s) (b .at) (b .load) (b .area)
           (b .end) (b .inv .0 i) (h .1) g,
@@ -201,38 +193,22 @@ goes c to place l a g =
     )
 
 fails : (c : tie.After-step-at Inv-loop3 μ-loop3 Inv-loop2 μ-loop2 Inv-loop μ-loop) (w place : ℕ) (l : Loading)
-    (a : List ℕ)
-    → Walked (end.Failed w) place l a (whence (c .before .before .before .before .before .before .before .before))
-    → Kept (c .before .before .before .before .before .before .before .before) (end.Failed w)
-    (c .before .before .before .before .before .before .before .before .span .result) l a
-fails c w place l a g =
-    let h = left (c .before .before .before .before .before .before) in (
-      λ i. record {
-        place = place;
-        behind = omega
-            (arith, command (c .before .before .before .before .before .before .before .before) i .0);
-        walked = g;
-      },
-      λ z. absurd (omega (arith, h .0)),
-      g .steady .area,
-    )
+    (a : List ℕ) → Walked (end.Failed w) place l a (whence (its c))
+    → Kept (its c) (end.Failed w) (its c .span .result) l a
+fails c w place l a g = (
+  λ i. record { place = place; behind = omega (arith, command (its c) i .0); walked = g },
+  λ z. absurd (omega (arith, left (c .before .before .before .before .before .before) .0)),
+  g .steady .area,
+)
 
 asks : (c : tie.After-step-at Inv-loop3 μ-loop3 Inv-loop2 μ-loop2 Inv-loop μ-loop) (t place : ℕ) (l : Loading)
-    (a : List ℕ)
-    → Walked (end.Asked t) place l a (whence (c .before .before .before .before .before .before .before .before))
-    → Kept (c .before .before .before .before .before .before .before .before) (end.Asked t)
-    (c .before .before .before .before .before .before .before .before .span .result) l a
-asks c t place l a g =
-    let h = left (c .before .before .before .before .before .before) in (
-      λ i. record {
-        place = place;
-        behind = omega
-            (arith, command (c .before .before .before .before .before .before .before .before) i .0);
-        walked = g;
-      },
-      λ z. absurd (omega (arith, h .0)),
-      g .steady .area,
-    )
+    (a : List ℕ) → Walked (end.Asked t) place l a (whence (its c))
+    → Kept (its c) (end.Asked t) (its c .span .result) l a
+asks c t place l a g = (
+  λ i. record { place = place; behind = omega (arith, command (its c) i .0); walked = g },
+  λ z. absurd (omega (arith, left (c .before .before .before .before .before .before) .0)),
+  g .steady .area,
+)
 
 -- where the ways meet, the card's parts, the file area, number and word are those of the record's turn
 its-data : (s : tie.After-span Inv-loop3 μ-loop3 Inv-loop2 μ-loop2 Inv-loop μ-loop)
@@ -333,18 +309,6 @@ played c =
 loop-holds : tie.Need-loop-holds Inv-loop3 μ-loop3 Inv-loop2 μ-loop2 Inv-loop μ-loop
 loop-holds c = (enters-none _ _ _ _ _, refl, refl, omega arith, omega arith)
 
-shared-slice-read-p1 :
-    tie.Need-shared-slice-read-p1 Inv-loop3 μ-loop3 Inv-loop2 μ-loop2 Inv-loop μ-loop
-shared-slice-read-p1 c = search needs
-
-shared-slice-read-wide :
-    tie.Need-shared-slice-read-wide Inv-loop3 μ-loop3 Inv-loop2 μ-loop2 Inv-loop μ-loop
-shared-slice-read-wide c = search needs
-
-shared-slice-read-span :
-    tie.Need-shared-slice-read-span Inv-loop3 μ-loop3 Inv-loop2 μ-loop2 Inv-loop μ-loop
-shared-slice-read-span c = search needs
-
 loop2-holds : tie.Need-loop2-holds Inv-loop3 μ-loop3 Inv-loop2 μ-loop2 Inv-loop μ-loop
 loop2-holds c =
     let s = card c in
@@ -364,10 +328,6 @@ loop2-holds c =
 
 wanted-requires : tie.Need-wanted-requires Inv-loop3 μ-loop3 Inv-loop2 μ-loop2 Inv-loop μ-loop
 wanted-requires c κs = left (c .before) .1
-
-scan-from-requires :
-    tie.Need-scan-from-requires Inv-loop3 μ-loop3 Inv-loop2 μ-loop2 Inv-loop μ-loop
-scan-from-requires c κs = search needs
 
 loop3-holds : tie.Need-loop3-holds Inv-loop3 μ-loop3 Inv-loop2 μ-loop2 Inv-loop μ-loop
 loop3-holds c =
@@ -447,336 +407,178 @@ step-at-requires c κs =
       spot-fits (g .load) (g .area) (l .2 .going .steady) b _ (found c),
     )
 
+-- bytes that are laid, kept or fed lie in the data, behind the turn's own place, and a record's part in the area
+inside : (c : tie.After-step-at Inv-loop3 μ-loop3 Inv-loop2 μ-loop2 Inv-loop μ-loop)
+    → (its c .span .result ≡ length (dat (its c)))
+    × (length (c .before .before .before .before .before .before .before .loop2 .area) ≡ areaSize)
+inside c = (
+  command (its c) (left (c .before .before .before .before .before .before) .0) .0,
+  c .before .before .before .before .before .before .before .loop2 .inv .2,
+)
+
+laid : (c : tie.After-known-told Inv-loop3 μ-loop3 Inv-loop2 μ-loop2 Inv-loop μ-loop) → (
+    let s = c .before .before .before .before in
+    let x = c .before .course .given .0 in
+    (s .before .before .before .before .before .before .before .loop2 .at < x .1 .1 .0)
+    × (x .1 .0 ≤ x .1 .1 .0) × (x .1 .1 .0 ≤ length (dat (its s))) × (x .0 + (x .1 .1 .0 - x .1 .0) ≤ areaSize)
+    )
+laid c = turn (c .before .before .before .before) .ahead _ (c .before .course .given .1)
+
+kept : (c : tie.After-known-told2 Inv-loop3 μ-loop3 Inv-loop2 μ-loop2 Inv-loop μ-loop) → (
+    let s = c .before .before .before .before in
+    let x = c .before .course2 .given .0 in
+    (s .before .before .before .before .before .before .before .loop2 .at < x .1 .1 .0)
+    × (x .1 .0 ≤ x .1 .1 .0) × (x .1 .1 .0 ≤ length (dat (its s))) × Sized (x .0) (x .1 .1 .0 - x .1 .0)
+    )
+kept c = turn (c .before .before .before .before) .ahead _ (c .before .course2 .given .1)
+
 sub-lay : tie.Need-sub-lay Inv-loop3 μ-loop3 Inv-loop2 μ-loop2 Inv-loop μ-loop
-sub-lay c =
-    let a = turn (c .before .before .before .before) .ahead _ (c .before .course .given .1) in
-    let n = command (c .before .before .before .before .before .before .before .before .before .before .before
-    .before) (left (c .before .before .before .before .before .before .before .before .before .before) .0) .0 in
-    omega (
-      arith,
-      a,
-      n,
-      c .before .before .before .before .before .before .before .before .before .before .before
-          .loop2 .inv .2,
-    )
+sub-lay c = omega (arith, laid c, inside (c .before .before .before .before))
 
-part-lay-start : tie.Need-part-lay-start Inv-loop3 μ-loop3 Inv-loop2 μ-loop2 Inv-loop μ-loop
-part-lay-start c =
-    let a = turn (c .before .before .before .before) .ahead _ (c .before .course .given .1) in
-    let n = command (c .before .before .before .before .before .before .before .before .before .before .before
-    .before) (left (c .before .before .before .before .before .before .before .before .before .before) .0) .0 in
-    omega (
-      arith,
-      a,
-      n,
-      c .before .before .before .before .before .before .before .before .before .before .before
-          .loop2 .inv .2,
-    )
-
-part-lay-end : tie.Need-part-lay-end Inv-loop3 μ-loop3 Inv-loop2 μ-loop2 Inv-loop μ-loop
-part-lay-end c =
-    let a = turn (c .before .before .before .before) .ahead _ (c .before .course .given .1) in
-    let n = command (c .before .before .before .before .before .before .before .before .before .before .before
-    .before) (left (c .before .before .before .before .before .before .before .before .before .before) .0) .0 in
-    omega (
-      arith,
-      a,
-      n,
-      c .before .before .before .before .before .before .before .before .before .before .before
-          .loop2 .inv .2,
-    )
+add-lay : tie.Need-add-lay Inv-loop3 μ-loop3 Inv-loop2 μ-loop2 Inv-loop μ-loop
+add-lay c = omega (arith, laid c, inside (c .before .before .before .before))
 
 sub-lay-2 : tie.Need-sub-lay-2 Inv-loop3 μ-loop3 Inv-loop2 μ-loop2 Inv-loop μ-loop
-sub-lay-2 c =
-    let a = turn (c .before .before .before .before .before) .ahead _ (c .before .before .course .given .1) in
-    let n = command (c .before .before .before .before .before .before .before .before .before .before .before .before
-    .before) (left (c .before .before .before .before .before .before .before .before .before .before .before) .0)
-    .0 in
-    omega (
-      arith,
-      a,
-      n,
-      c .before .before .before .before .before .before .before .before .before .before .before
-          .before .loop2 .inv .2,
-    )
+sub-lay-2 c = omega (arith, laid c, inside (c .before .before .before .before))
+
+part-lay-start : tie.Need-part-lay-start Inv-loop3 μ-loop3 Inv-loop2 μ-loop2 Inv-loop μ-loop
+part-lay-start c = omega (arith, laid c, inside (c .before .before .before .before))
+
+part-lay-end : tie.Need-part-lay-end Inv-loop3 μ-loop3 Inv-loop2 μ-loop2 Inv-loop μ-loop
+part-lay-end c = omega (arith, laid c, inside (c .before .before .before .before))
+
+sub-lay-3 : tie.Need-sub-lay-3 Inv-loop3 μ-loop3 Inv-loop2 μ-loop2 Inv-loop μ-loop
+sub-lay-3 c = omega (arith, laid (c .before), inside (c .before .before .before .before .before))
 
 part-lay-start-2 : tie.Need-part-lay-start-2 Inv-loop3 μ-loop3 Inv-loop2 μ-loop2 Inv-loop μ-loop
-part-lay-start-2 c =
-    let a = turn (c .before .before .before .before .before) .ahead _ (c .before .before .course .given .1) in
-    let n = command (c .before .before .before .before .before .before .before .before .before .before .before .before
-    .before) (left (c .before .before .before .before .before .before .before .before .before .before .before) .0)
-    .0 in
-    omega (
-      arith,
-      a,
-      n,
-      c .before .before .before .before .before .before .before .before .before .before .before
-          .before .loop2 .inv .2,
-    )
+part-lay-start-2 c = omega (arith, laid (c .before), inside (c .before .before .before .before .before))
 
 part-lay-end-2 : tie.Need-part-lay-end-2 Inv-loop3 μ-loop3 Inv-loop2 μ-loop2 Inv-loop μ-loop
-part-lay-end-2 c =
-    let a = turn (c .before .before .before .before .before) .ahead _ (c .before .before .course .given .1) in
-    let n = command (c .before .before .before .before .before .before .before .before .before .before .before .before
-    .before) (left (c .before .before .before .before .before .before .before .before .before .before .before) .0)
-    .0 in
-    omega (
-      arith,
-      a,
-      n,
-      c .before .before .before .before .before .before .before .before .before .before .before
-          .before .loop2 .inv .2,
-    )
+part-lay-end-2 c = omega (arith, laid (c .before), inside (c .before .before .before .before .before))
 
 lay-requires : tie.Need-lay-requires Inv-loop3 μ-loop3 Inv-loop2 μ-loop2 Inv-loop μ-loop
 lay-requires c κs =
-    let a = turn (c .before .before .before .before .before .before) .ahead _
-    (c .before .before .before .course .given .1) in
-    let x = c .before .before .before .course .given .0 in
-    rw (length-take-le (x .1 .1 .0 - x .1 .0) (drop (x .1 .0)
-    (dat (c .before .before .before .before .before .before .before .before .before .before .before .before
-    .before .before))) (rw length-drop (omega (arith, a))))
-    (rw (length-take, length-drop)
-    (omega (
-      arith,
-      a,
-      c .before .before .before .before .before .before .before .before .before .before .before
-          .before .before .loop2 .inv .2,
-    )))
+    let k = c .before .before in
+    let s = k .before .before .before .before in
+    let x = k .before .course .given .0 in
+    rw (
+      length-take-le (x .1 .1 .0 - x .1 .0) (drop (x .1 .0) (dat (its s)))
+          (rw length-drop (omega (arith, laid k))),
+      length-take-le (x .0 + (x .1 .1 .0 - x .1 .0) - x .0)
+          (drop (x .0) (s .before .before .before .before .before .before .before .loop2 .area))
+          (rw length-drop (omega (arith, laid k, inside s))),
+    )
+    (omega arith)
 
 loop2-less : tie.Need-loop2-less Inv-loop3 μ-loop3 Inv-loop2 μ-loop2 Inv-loop μ-loop
 loop2-less c =
-    let a = turn (c .before .before .before .before .before .before .before .before .before) .ahead _
-    (c .before .before .before .before .before .before .course .given .1) in
-    let n = command (c .before .before .before .before .before .before .before .before .before .before .before .before
-    .before .before .before .before .before)
-    (left (c .before .before .before .before .before .before .before .before .before .before .before .before
-    .before .before .before) .0) .0 in
-    omega (
-      arith,
-      a,
-      n,
-      c .before .before .before .before .before .before .before .before .before .before .before
-          .before .before .before .before .before .loop2 .inv .2,
-    )
+    let k = c .before .before .before .before .before in
+    omega (arith, laid k, inside (k .before .before .before .before))
 
 loop2-again : tie.Need-loop2-again Inv-loop3 μ-loop3 Inv-loop2 μ-loop2 Inv-loop μ-loop
 loop2-again c =
-    let a = turn (c .before .before .before .before .before .before .before .before .before) .ahead _
-    (c .before .before .before .before .before .before .course .given .1) in
-    let n = command (c .before .before .before .before .before .before .before .before .before .before .before .before
-    .before .before .before .before .before)
-    (left (c .before .before .before .before .before .before .before .before .before .before .before .before
-    .before .before .before) .0) .0 in
-    let g = c .before .before .before .before .before .before .before .before .before .before .before .before .before
-    .before .before .before .loop2 in
-    let x = c .before .before .before .before .before .before .course .given .0 in
+    let k = c .before .before .before .before .before in
+    let s = k .before .before .before .before in
+    let x = k .before .course .given .0 in
+    let d = drop (x .1 .0) (dat (its s)) in
     rw (
       c .before .before .lay .ensures,
-      over-mid (g .area)
-          (part (dat (c .before .before .before .before .before .before .before .before .before .before .before
-          .before .before .before .before .before .before)) (x .1 .0) (x .1 .1 .0 - x .1 .0)) (x .0)
-          (length (g .area) - x .0)
-          (omega (arith, a, g .inv .2)) (omega (arith, a, g .inv .2)),
+      over-mid (s .before .before .before .before .before .before .before .loop2 .area)
+          (take (x .1 .1 .0 - x .1 .0) d) (x .0) (x .0 + (x .1 .1 .0 - x .1 .0) - x .0)
+          (omega (arith, laid k, length-take (x .1 .1 .0 - x .1 .0) d)) (omega (arith, laid k, inside s)),
     )
-    (goes (c .before .before .before .before .before .before .before .before .before) _ _ _ _
-    (turn (c .before .before .before .before .before .before .before .before .before) .lays _ _ _
-    (c .before .before .before .before .before .before .course .given .1)))
-
-enum-known-course-2 :
-    tie.Need-enum-known-course-2 Inv-loop3 μ-loop3 Inv-loop2 μ-loop2 Inv-loop μ-loop
-enum-known-course-2 c = search needs
+    (goes s _ _ _ _ (turn s .lays _ _ _ (k .before .course .given .1)))
 
 sub-kept-as : tie.Need-sub-kept-as Inv-loop3 μ-loop3 Inv-loop2 μ-loop2 Inv-loop μ-loop
-sub-kept-as c =
-    let a = turn (c .before .before .before .before) .ahead _ (c .before .course2 .given .1) in
-    let n = command (c .before .before .before .before .before .before .before .before .before .before .before
-    .before) (left (c .before .before .before .before .before .before .before .before .before .before) .0) .0 in
-    omega (
-      arith,
-      a,
-      n,
-      c .before .before .before .before .before .before .before .before .before .before .before
-          .loop2 .inv .2,
-    )
+sub-kept-as c = omega (arith, kept c, inside (c .before .before .before .before))
 
-part-kept-as-start :
-    tie.Need-part-kept-as-start Inv-loop3 μ-loop3 Inv-loop2 μ-loop2 Inv-loop μ-loop
-part-kept-as-start c =
-    let a = turn (c .before .before .before .before) .ahead _ (c .before .course2 .given .1) in
-    let n = command (c .before .before .before .before .before .before .before .before .before .before .before
-    .before) (left (c .before .before .before .before .before .before .before .before .before .before) .0) .0 in
-    omega (
-      arith,
-      a,
-      n,
-      c .before .before .before .before .before .before .before .before .before .before .before
-          .loop2 .inv .2,
-    )
+part-kept-as-start : tie.Need-part-kept-as-start Inv-loop3 μ-loop3 Inv-loop2 μ-loop2 Inv-loop μ-loop
+part-kept-as-start c = omega (arith, kept c, inside (c .before .before .before .before))
 
 part-kept-as-end : tie.Need-part-kept-as-end Inv-loop3 μ-loop3 Inv-loop2 μ-loop2 Inv-loop μ-loop
-part-kept-as-end c =
-    let a = turn (c .before .before .before .before) .ahead _ (c .before .course2 .given .1) in
-    let n = command (c .before .before .before .before .before .before .before .before .before .before .before
-    .before) (left (c .before .before .before .before .before .before .before .before .before .before) .0) .0 in
-    omega (
-      arith,
-      a,
-      n,
-      c .before .before .before .before .before .before .before .before .before .before .before
-          .loop2 .inv .2,
-    )
+part-kept-as-end c = omega (arith, kept c, inside (c .before .before .before .before))
 
 kept-as-requires : tie.Need-kept-as-requires Inv-loop3 μ-loop3 Inv-loop2 μ-loop2 Inv-loop μ-loop
 kept-as-requires c κs =
-    let a = turn (c .before .before .before .before .before) .ahead _ (c .before .before .course2 .given .1) in
-    let n = command (c .before .before .before .before .before .before .before .before .before .before .before .before
-    .before) (left (c .before .before .before .before .before .before .before .before .before .before .before) .0)
-    .0 in
+    let a = kept (c .before) in
     let x = c .before .before .course2 .given .0 in
-    rw (length-take-le (x .1 .1 .0 - x .1 .0) (drop (x .1 .0)
-    (dat (c .before .before .before .before .before .before .before .before .before .before .before .before
-    .before))) (rw length-drop (omega (arith, a)))) (a .3)
+    rw (length-take-le (x .1 .1 .0 - x .1 .0) (drop (x .1 .0) (dat (its (c .before .before .before .before .before))))
+    (rw length-drop (omega (arith, a)))) (a .3)
 
 loop2-less-2 : tie.Need-loop2-less-2 Inv-loop3 μ-loop3 Inv-loop2 μ-loop2 Inv-loop μ-loop
 loop2-less-2 c =
-    let a = turn (c .before .before .before .before .before .before) .ahead _
-    (c .before .before .before .course2 .given .1) in
-    let n = command (c .before .before .before .before .before .before .before .before .before .before .before .before
-    .before .before)
-    (left (c .before .before .before .before .before .before .before .before .before .before .before .before) .0)
-    .0 in
-    omega (
-      arith,
-      a,
-      n,
-      c .before .before .before .before .before .before .before .before .before .before .before
-          .before .before .loop2 .inv .2,
-    )
+    let k = c .before .before in
+    omega (arith, kept k, inside (k .before .before .before .before))
 
 loop2-again-2 : tie.Need-loop2-again-2 Inv-loop3 μ-loop3 Inv-loop2 μ-loop2 Inv-loop μ-loop
 loop2-again-2 c =
-    rw (c .kept-as .ensures) (goes (c .before .before .before .before .before .before) _ _ _ _
-    (turn (c .before .before .before .before .before .before) .keeps _ _ _
-    (c .before .before .before .course2 .given .1)))
+    let s = c .before .before .before .before .before .before in
+    rw (c .kept-as .ensures) (goes s _ _ _ _ (turn s .keeps _ _ _ (c .before .before .before .course2 .given .1)))
 
-enum-known-course-3 :
-    tie.Need-enum-known-course-3 Inv-loop3 μ-loop3 Inv-loop2 μ-loop2 Inv-loop μ-loop
-enum-known-course-3 c = search needs
-
-table-fed-requires :
-    tie.Need-table-fed-requires Inv-loop3 μ-loop3 Inv-loop2 μ-loop2 Inv-loop μ-loop
+table-fed-requires : tie.Need-table-fed-requires Inv-loop3 μ-loop3 Inv-loop2 μ-loop2 Inv-loop μ-loop
 table-fed-requires c κs =
     let a = turn (c .before .before .before .before) .ahead _ (c .before .course3 .given .1) in
-    let n = command (c .before .before .before .before .before .before .before .before .before .before .before
-    .before) (left (c .before .before .before .before .before .before .before .before .before .before) .0) .0 in
     (a .1, a .3)
-
-enum-known-verdict :
-    tie.Need-enum-known-verdict Inv-loop3 μ-loop3 Inv-loop2 μ-loop2 Inv-loop μ-loop
-enum-known-verdict c = search needs
 
 loop2-less-3 : tie.Need-loop2-less-3 Inv-loop3 μ-loop3 Inv-loop2 μ-loop2 Inv-loop μ-loop
 loop2-less-3 c =
-    let a = turn (c .before .before .before .before .before .before .before .before .before) .ahead _
-    (c .before .before .before .before .before .before .course3 .given .1) in
-    let n = command (c .before .before .before .before .before .before .before .before .before .before .before .before
-    .before .before .before .before .before)
-    (left (c .before .before .before .before .before .before .before .before .before .before .before .before
-    .before .before .before) .0) .0 in
+    let k = c .before .before .before .before .before .before in
+    let a = turn (k .before .before .before) .ahead _ (k .course3 .given .1) in
     omega (
       arith,
       a,
-      n,
-      reaches _ _ _ (c .before .verdict .given .1)
-          (c .before .before .before .before .table-fed .ensures .1),
+      inside (k .before .before .before),
+      reaches _ _ _ (c .before .verdict .given .1) (c .before .before .before .before .table-fed .ensures .1),
     )
 
 loop2-again-3 : tie.Need-loop2-again-3 Inv-loop3 μ-loop3 Inv-loop2 μ-loop2 Inv-loop μ-loop
 loop2-again-3 c =
-    let a = turn (c .before .before .before .before .before .before .before .before .before) .ahead _
-    (c .before .before .before .before .before .before .course3 .given .1) in
-    let n = command (c .before .before .before .before .before .before .before .before .before .before .before .before
-    .before .before .before .before .before)
-    (left (c .before .before .before .before .before .before .before .before .before .before .before .before
-    .before .before .before) .0) .0 in
-    goes (c .before .before .before .before .before .before .before .before .before) _ _ _ _
-    (turn (c .before .before .before .before .before .before .before .before .before) .feeds _
-    (c .before .before .before .before .before .before .course3 .given .1) _ _
-    (c .before .before .before .before .table-fed .ensures .0) _ (c .before .verdict .given .1)
-    (omega (
-      arith,
-      a,
-      reaches _ _ _ (c .before .verdict .given .1)
-          (c .before .before .before .before .table-fed .ensures .1),
-    )))
-
-enum-known-verdict-2 :
-    tie.Need-enum-known-verdict-2 Inv-loop3 μ-loop3 Inv-loop2 μ-loop2 Inv-loop μ-loop
-enum-known-verdict-2 c = search needs
+    let k = c .before .before .before .before .before .before in
+    let s = k .before .before .before in
+    let a = turn s .ahead _ (k .course3 .given .1) in
+    let f = c .before .before .before .before .table-fed .ensures in
+    goes s _ _ _ _
+    (turn s .feeds _ (k .course3 .given .1) _ _ (f .0) _ (c .before .verdict .given .1)
+    (omega (arith, a, reaches _ _ _ (c .before .verdict .given .1) (f .1))))
 
 loop2-less-4 : tie.Need-loop2-less-4 Inv-loop3 μ-loop3 Inv-loop2 μ-loop2 Inv-loop μ-loop
 loop2-less-4 c =
-    omega (
-      arith,
-      c .before .before .before .before .before .before .before .before .before .before .before .before
-          .before .before .before .loop2-test .taken,
-    )
+    let s = c .before .before .before .before .before .before .before .before .before in
+    omega (arith, s .before .before .before .before .before .before .loop2-test .taken)
 
 loop2-again-4 : tie.Need-loop2-again-4 Inv-loop3 μ-loop3 Inv-loop2 μ-loop2 Inv-loop μ-loop
 loop2-again-4 c =
-    fails (c .before .before .before .before .before .before .before .before .before) _ _ _ _
-    (turn (c .before .before .before .before .before .before .before .before .before) .refuses _
-    (c .before .before .before .before .before .before .course3 .given .1) _ _
-    (c .before .before .before .before .table-fed .ensures .0) _ (c .before .verdict2 .given .1))
-
-enum-known-course-4 :
-    tie.Need-enum-known-course-4 Inv-loop3 μ-loop3 Inv-loop2 μ-loop2 Inv-loop μ-loop
-enum-known-course-4 c = search needs
+    let k = c .before .before .before .before .before .before in
+    let s = k .before .before .before in
+    fails s _ _ _ _
+    (turn s .refuses _ (k .course3 .given .1) _ _ (c .before .before .before .before .table-fed .ensures .0) _
+    (c .before .verdict2 .given .1))
 
 loop2-less-5 : tie.Need-loop2-less-5 Inv-loop3 μ-loop3 Inv-loop2 μ-loop2 Inv-loop μ-loop
 loop2-less-5 c =
-    omega (
-      arith,
-      c .before .before .before .before .before .before .before .before .before .before .loop2-test
-          .taken,
-    )
+    let s = c .before .before .before .before in
+    omega (arith, s .before .before .before .before .before .before .loop2-test .taken)
 
 loop2-again-5 : tie.Need-loop2-again-5 Inv-loop3 μ-loop3 Inv-loop2 μ-loop2 Inv-loop μ-loop
 loop2-again-5 c =
-    asks (c .before .before .before .before) _ _ _ _
-    (turn (c .before .before .before .before) .asks _ (c .before .course4 .given .1))
-
-enum-known-course-5 :
-    tie.Need-enum-known-course-5 Inv-loop3 μ-loop3 Inv-loop2 μ-loop2 Inv-loop μ-loop
-enum-known-course-5 c = search needs
+    let s = c .before .before .before .before in
+    asks s _ _ _ _ (turn s .asks _ (c .before .course4 .given .1))
 
 loop2-less-6 : tie.Need-loop2-less-6 Inv-loop3 μ-loop3 Inv-loop2 μ-loop2 Inv-loop μ-loop
 loop2-less-6 c =
-    omega (
-      arith,
-      c .before .before .before .before .before .before .before .before .before .before .loop2-test
-          .taken,
-    )
+    let s = c .before .before .before .before in
+    omega (arith, s .before .before .before .before .before .before .loop2-test .taken)
 
 loop2-again-6 : tie.Need-loop2-again-6 Inv-loop3 μ-loop3 Inv-loop2 μ-loop2 Inv-loop μ-loop
 loop2-again-6 c =
-    fails (c .before .before .before .before) _ _ _ _
-    (turn (c .before .before .before .before) .fails _ (c .before .course5 .given .1))
-
-locked-as-requires :
-    tie.Need-locked-as-requires Inv-loop3 μ-loop3 Inv-loop2 μ-loop2 Inv-loop μ-loop
-locked-as-requires c κs = search needs
+    let s = c .before .before .before .before in
+    fails s _ _ _ _ (turn s .fails _ (c .before .course5 .given .1))
 
 slice-aggregate-lived :
     tie.Need-slice-aggregate-lived Inv-loop3 μ-loop3 Inv-loop2 μ-loop2 Inv-loop μ-loop
 slice-aggregate-lived c =
     sym (c .before .before .before .before .before .before .before .before .before .before .before .before .before
     .before .before .loop .inv .2)
-
-shared-slice-read-lived :
-    tie.Need-shared-slice-read-lived Inv-loop3 μ-loop3 Inv-loop2 μ-loop2 Inv-loop μ-loop
-shared-slice-read-lived c = search needs
 
 lived-requires : tie.Need-lived-requires Inv-loop3 μ-loop3 Inv-loop2 μ-loop2 Inv-loop μ-loop
 lived-requires c κs =
@@ -796,14 +598,6 @@ lived-requires c κs =
           (s .before .before .before .before .before .before .before .before .before .loop .area) h m)
           (c .before .before .before .if3 .taken),
     )
-
-held-as-requires-2 :
-    tie.Need-held-as-requires-2 Inv-loop3 μ-loop3 Inv-loop2 μ-loop2 Inv-loop μ-loop
-held-as-requires-2 c κs = search needs
-
-shared-slice-read-put-line :
-    tie.Need-shared-slice-read-put-line Inv-loop3 μ-loop3 Inv-loop2 μ-loop2 Inv-loop μ-loop
-shared-slice-read-put-line c = search needs
 
 loop-again : tie.Need-loop-again Inv-loop3 μ-loop3 Inv-loop2 μ-loop2 Inv-loop μ-loop
 loop-again c =
@@ -842,16 +636,16 @@ pub enter-all-spec : {M : Type 1} → statement M
 enter-all-spec =
     tie.close
     (tie.spec Inv-loop3 μ-loop3 Inv-loop2 μ-loop2 Inv-loop μ-loop loop-holds (search needs) (search needs)
-    (search needs) (search needs) (search needs) (search needs) shared-slice-read-p1 shared-slice-read-wide
-    (search needs) (search needs) (search needs) (search needs) (search needs) shared-slice-read-span
-    (search needs) loop2-holds wanted-requires (search needs) (search needs) scan-from-requires loop3-holds
+    (search needs) (search needs) (search needs) (search needs) (search needs) (search needs)
+    (search needs) (search needs) (search needs) (search needs) (search needs) (search needs)
+    (search needs) loop2-holds wanted-requires (search needs) (search needs) (search needs) loop3-holds
     mul-f element-copy-out-f spot-in-requires loop3-less loop3-again (search needs) add-base add-j
-    loop3-less-2 loop3-again-2 step-at-requires (search needs) sub-lay part-lay-start part-lay-end sub-lay-2
-    part-lay-start-2 part-lay-end-2 lay-requires loop2-less loop2-again enum-known-course-2 sub-kept-as
-    part-kept-as-start part-kept-as-end kept-as-requires loop2-less-2 loop2-again-2 enum-known-course-3
-    table-fed-requires enum-known-verdict loop2-less-3 loop2-again-3 enum-known-verdict-2 loop2-less-4
-    loop2-again-4 enum-known-course-4 loop2-less-5 loop2-again-5 enum-known-course-5 loop2-less-6
-    loop2-again-6 (search needs) (search needs) locked-as-requires slice-aggregate-lived
-    shared-slice-read-lived lived-requires (search needs) held-as-requires-2 (search needs) (search needs)
-    shared-slice-read-put-line (search needs) (search needs) (search needs) loop-again same-length
+    loop3-less-2 loop3-again-2 step-at-requires (search needs) sub-lay add-lay sub-lay-2 part-lay-start part-lay-end
+    sub-lay-3 part-lay-start-2 part-lay-end-2 lay-requires loop2-less loop2-again (search needs) sub-kept-as
+    part-kept-as-start part-kept-as-end kept-as-requires loop2-less-2 loop2-again-2 (search needs)
+    table-fed-requires (search needs) loop2-less-3 loop2-again-3 (search needs) loop2-less-4
+    loop2-again-4 (search needs) loop2-less-5 loop2-again-5 (search needs) loop2-less-6
+    loop2-again-6 (search needs) (search needs) (search needs) slice-aggregate-lived
+    (search needs) lived-requires (search needs) (search needs) (search needs) (search needs)
+    (search needs) (search needs) (search needs) (search needs) loop-again same-length
     (search needs) returns)

@@ -7,14 +7,8 @@ use Rattle.walk_command.proofs.settled.Statement.{statement}
 use Rattle.walk_command.proofs.settled.Tie as tie
 use Rattle.model.specs.Loads.{runningIn}
 use Rattle.walk_course.specs.Steps.{on}
-use Rattle.walk_command.proofs.Closing.{
-  not-asked,
-  passes-end,
-  fails-end,
-  settles-passed,
-  settles-asked,
-  settles-erred,
-}
+use Rattle.walk_command.proofs.Closing.{not-asked, passes-end, fails-end, settles-passed, settles-asked}
+use Rattle.walk_command.proofs.Closing.{settles-erred}
 
 returns : tie.Need-returns
 returns c =

@@ -1,6 +1,6 @@
 -- `walk_command::walked`: the walk from `at` is the walk from i on of the state that stands then (`Going`); a turn is
 -- judged once (`Turn`) and has a case a course. The inner loop seeks the wanted record (`Scanning`).
-use Prim.Native.Nat.{_-_, _≤_}
+use Prim.Native.Nat.{_+_, _-_, _≤_, _<_}
 use mathlib.Core.Path.{_≡_, refl, sym, _∙_}
 use native.Mathlib.Omega.{arith}
 use lib.ListN.{length, drop, length-take, length-drop}
@@ -10,9 +10,11 @@ use Rattle.walk_command.proofs.walked.Statement.{statement}
 use Rattle.walk_command.proofs.walked.Tie as tie
 use Rattle.table_places.specs.Scans.{Scanning}
 use Rattle.table_places.proofs.Scans.{scan-begins, scan-more, scan-found, scan-ends}
+use Rattle.walk_course.specs.Lengths.{Sized}
 use Rattle.walk_course.specs.Steps.{stateOf}
 use Rattle.walk_step.specs.Paces.{onward}
 use Rattle.walk_command.proofs.Owner.{Going, rests-so, spot-within, spot-fits, reaches, Turn, turned}
+use Rattle.model.specs.Stored.{areaSize}
 use Rattle.model.specs.Loads.{fileList}
 use Rattle.model.specs.Rules.{tagSpot}
 use Rattle.walk_step.specs.Turns.{wantedTag}
@@ -130,155 +132,99 @@ step-at-requires c κs =
       spot-fits (g .load) (g .area) (g .inv .steady) b _ (found c),
     )
 
+-- bytes that are laid or kept lie in the data, behind the turn's own place, and their record's part in the area
+laid : (c : tie.After-known-told Inv-loop2 μ-loop2 Inv-loop μ-loop) → (
+    let g = c .before .before .before .before .before .before .before .before .before .before .before .loop in
+    let d = now (c .before .before .before .before .before .before .before .before .before .before .before .before
+    .before .before .args .d) in
+    let x = c .before .course .given .0 in
+    (g .i < x .1 .1 .0) × (x .1 .0 ≤ x .1 .1 .0) × (x .1 .1 .0 ≤ length d)
+    × (x .0 + (x .1 .1 .0 - x .1 .0) ≤ areaSize) × (length (g .area) ≡ areaSize)
+    )
+laid c =
+    let a = turn (c .before .before .before .before) .ahead _ (c .before .course .given .1) in (
+      a .0,
+      a .1,
+      a .2,
+      a .3,
+      c .before .before .before .before .before .before .before .before .before .before .before .loop
+          .inv .steady .area,
+    )
+
+kept : (c : tie.After-known-told2 Inv-loop2 μ-loop2 Inv-loop μ-loop) → (
+    let g = c .before .before .before .before .before .before .before .before .before .before .before .loop in
+    let d = now (c .before .before .before .before .before .before .before .before .before .before .before .before
+    .before .before .args .d) in
+    let x = c .before .course2 .given .0 in
+    (g .i < x .1 .1 .0) × (x .1 .0 ≤ x .1 .1 .0) × (x .1 .1 .0 ≤ length d) × Sized (x .0) (x .1 .1 .0 - x .1 .0)
+    )
+kept c = turn (c .before .before .before .before) .ahead _ (c .before .course2 .given .1)
+
 sub-lay : tie.Need-sub-lay Inv-loop2 μ-loop2 Inv-loop μ-loop
-sub-lay c =
-    let a = turn (c .before .before .before .before) .ahead _ (c .before .course .given .1) in
-    omega (
-      arith,
-      a,
-      c .before .before .before .before .before .before .before .before .before .before .before .loop
-          .inv .steady .area,
-    )
+sub-lay c = omega (arith, laid c)
 
-part-lay-start : tie.Need-part-lay-start Inv-loop2 μ-loop2 Inv-loop μ-loop
-part-lay-start c =
-    let a = turn (c .before .before .before .before) .ahead _ (c .before .course .given .1) in
-    omega (
-      arith,
-      a,
-      c .before .before .before .before .before .before .before .before .before .before .before .loop
-          .inv .steady .area,
-    )
-
-part-lay-end : tie.Need-part-lay-end Inv-loop2 μ-loop2 Inv-loop μ-loop
-part-lay-end c =
-    let a = turn (c .before .before .before .before) .ahead _ (c .before .course .given .1) in
-    omega (
-      arith,
-      a,
-      c .before .before .before .before .before .before .before .before .before .before .before .loop
-          .inv .steady .area,
-    )
+add-lay : tie.Need-add-lay Inv-loop2 μ-loop2 Inv-loop μ-loop
+add-lay c = omega (arith, laid c)
 
 sub-lay-2 : tie.Need-sub-lay-2 Inv-loop2 μ-loop2 Inv-loop μ-loop
-sub-lay-2 c =
-    let a = turn (c .before .before .before .before .before) .ahead _ (c .before .before .course .given .1) in
-    omega (
-      arith,
-      a,
-      c .before .before .before .before .before .before .before .before .before .before .before .before
-          .loop .inv .steady .area,
-    )
+sub-lay-2 c = omega (arith, laid c)
+
+part-lay-start : tie.Need-part-lay-start Inv-loop2 μ-loop2 Inv-loop μ-loop
+part-lay-start c = omega (arith, laid c)
+
+part-lay-end : tie.Need-part-lay-end Inv-loop2 μ-loop2 Inv-loop μ-loop
+part-lay-end c = omega (arith, laid c)
+
+sub-lay-3 : tie.Need-sub-lay-3 Inv-loop2 μ-loop2 Inv-loop μ-loop
+sub-lay-3 c = omega (arith, laid (c .before))
 
 part-lay-start-2 : tie.Need-part-lay-start-2 Inv-loop2 μ-loop2 Inv-loop μ-loop
-part-lay-start-2 c =
-    let a = turn (c .before .before .before .before .before) .ahead _ (c .before .before .course .given .1) in
-    omega (
-      arith,
-      a,
-      c .before .before .before .before .before .before .before .before .before .before .before .before
-          .loop .inv .steady .area,
-    )
+part-lay-start-2 c = omega (arith, laid (c .before))
 
 part-lay-end-2 : tie.Need-part-lay-end-2 Inv-loop2 μ-loop2 Inv-loop μ-loop
-part-lay-end-2 c =
-    let a = turn (c .before .before .before .before .before) .ahead _ (c .before .before .course .given .1) in
-    omega (
-      arith,
-      a,
-      c .before .before .before .before .before .before .before .before .before .before .before .before
-          .loop .inv .steady .area,
-    )
+part-lay-end-2 c = omega (arith, laid (c .before))
 
 lay-requires : tie.Need-lay-requires Inv-loop2 μ-loop2 Inv-loop μ-loop
-lay-requires c κs =
-    let a = turn (c .before .before .before .before .before .before) .ahead _
-    (c .before .before .before .course .given .1) in
-    simp (length-take, length-drop)
-    (omega (
-      arith,
-      a,
-      c .before .before .before .before .before .before .before .before .before .before .before
-          .before .before .loop .inv .steady .area,
-    ))
+lay-requires c κs = simp (length-take, length-drop) (omega (arith, laid (c .before .before)))
 
 loop-less : tie.Need-loop-less Inv-loop2 μ-loop2 Inv-loop μ-loop
-loop-less c =
-    let a = turn (c .before .before .before .before .before .before .before .before .before) .ahead _
-    (c .before .before .before .before .before .before .course .given .1) in
-    omega (
-      arith,
-      a,
-      c .before .before .before .before .before .before .before .before .before .before .before .before
-          .before .before .before .before .loop .inv .steady .area,
-    )
+loop-less c = omega (arith, laid (c .before .before .before .before .before))
 
 loop-again : tie.Need-loop-again Inv-loop2 μ-loop2 Inv-loop μ-loop
 loop-again c =
-    let a = turn (c .before .before .before .before .before .before .before .before .before) .ahead _
-    (c .before .before .before .before .before .before .course .given .1) in
-    let g = c .before .before .before .before .before .before .before .before .before .before .before .before .before
-    .before .before .before .loop in
-    let x = c .before .before .before .before .before .before .course .given .0 in
+    let k = c .before .before .before .before .before in
+    let g = k .before .before .before .before .before .before .before .before .before .before .before .loop in
+    let x = k .before .course .given .0 in
+    let d = k .before .before .before .before .before .before .before .before .before .before .before .before .before
+    .before .args .d in
     rw (
       c .before .before .lay .ensures,
-      over-mid (g .area)
-          (part (now (c .before .before .before .before .before .before .before .before .before .before .before
-          .before .before .before .before .before .before .before .before .args .d)) (x .1 .0) (x .1 .1 .0 - x .1 .0))
-          (x .0) (length (g .area) - x .0)
-          (omega (arith, a, g .inv .steady .area)) (omega (arith, a, g .inv .steady .area)),
+      over-mid (g .area) (part (now d) (x .1 .0) (x .1 .1 .0 - x .1 .0))
+          (x .0) (x .0 + (x .1 .1 .0 - x .1 .0) - x .0)
+          (omega (arith, laid k, length-take (x .1 .1 .0 - x .1 .0) (drop (x .1 .0) (now d)), length-drop (x .1 .0) (now d)))
+          (omega (arith, laid k)),
     )
-    (turn (c .before .before .before .before .before .before .before .before .before) .lays _ _ _
-    (c .before .before .before .before .before .before .course .given .1))
+    (turn (k .before .before .before .before) .lays _ _ _ (k .before .course .given .1))
 
 sub-kept-as : tie.Need-sub-kept-as Inv-loop2 μ-loop2 Inv-loop μ-loop
-sub-kept-as c =
-    let a = turn (c .before .before .before .before) .ahead _ (c .before .course2 .given .1) in
-    omega (
-      arith,
-      a,
-      c .before .before .before .before .before .before .before .before .before .before .before .loop
-          .inv .steady .area,
-    )
+sub-kept-as c = omega (arith, kept c)
 
 part-kept-as-start : tie.Need-part-kept-as-start Inv-loop2 μ-loop2 Inv-loop μ-loop
-part-kept-as-start c =
-    let a = turn (c .before .before .before .before) .ahead _ (c .before .course2 .given .1) in
-    omega (
-      arith,
-      a,
-      c .before .before .before .before .before .before .before .before .before .before .before .loop
-          .inv .steady .area,
-    )
+part-kept-as-start c = omega (arith, kept c)
 
 part-kept-as-end : tie.Need-part-kept-as-end Inv-loop2 μ-loop2 Inv-loop μ-loop
-part-kept-as-end c =
-    let a = turn (c .before .before .before .before) .ahead _ (c .before .course2 .given .1) in
-    omega (
-      arith,
-      a,
-      c .before .before .before .before .before .before .before .before .before .before .before .loop
-          .inv .steady .area,
-    )
+part-kept-as-end c = omega (arith, kept c)
 
 kept-as-requires : tie.Need-kept-as-requires Inv-loop2 μ-loop2 Inv-loop μ-loop
 kept-as-requires c κs =
-    let a = turn (c .before .before .before .before .before) .ahead _ (c .before .before .course2 .given .1) in
+    let a = kept (c .before) in
     let x = c .before .before .course2 .given .0 in
     rw (length-take-le (x .1 .1 .0 - x .1 .0) (drop (x .1 .0)
     (now (c .before .before .before .before .before .before .before .before .before .before .before .before
     .before .before .before .args .d))) (rw length-drop (omega (arith, a)))) (a .3)
 
 loop-less-2 : tie.Need-loop-less-2 Inv-loop2 μ-loop2 Inv-loop μ-loop
-loop-less-2 c =
-    let a = turn (c .before .before .before .before .before .before) .ahead _
-    (c .before .before .before .course2 .given .1) in
-    omega (
-      arith,
-      a,
-      c .before .before .before .before .before .before .before .before .before .before .before .before
-          .before .loop .inv .steady .area,
-    )
+loop-less-2 c = omega (arith, kept (c .before .before))
 
 loop-again-2 : tie.Need-loop-again-2 Inv-loop2 μ-loop2 Inv-loop μ-loop
 loop-again-2 c =
@@ -358,7 +304,7 @@ walked-spec =
     (tie.spec Inv-loop2 μ-loop2 Inv-loop μ-loop loop-holds (search needs) (search needs) (search needs)
     (search needs) loop2-holds (search needs) element-copy-out-f spot-in-requires (search needs) loop2-again
     (search needs) add-base add-j (search needs) loop2-again-2 step-at-requires (search needs) sub-lay
-    part-lay-start part-lay-end sub-lay-2 part-lay-start-2 part-lay-end-2 lay-requires loop-less loop-again
+    add-lay sub-lay-2 part-lay-start part-lay-end sub-lay-3 part-lay-start-2 part-lay-end-2 lay-requires loop-less loop-again
     (search needs) sub-kept-as part-kept-as-start part-kept-as-end kept-as-requires loop-less-2 loop-again-2
     (search needs) table-fed-requires (search needs) loop-less-3 loop-again-3 (search needs) same-length
     returns (search needs) same-length-2 returns-2 (search needs) same-length-3 returns-3 same-length-4
