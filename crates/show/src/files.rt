@@ -6,9 +6,7 @@ use crate::form::write_hex;
 use model::BINARY;
 use model::Card;
 use model::Descriptor;
-use model::Loading;
 use model::SIMULATED;
-use model::Spot;
 use model::TABLE_LIMIT;
 ghost use Prim.Native.Nat.{_≤_};
 
@@ -96,16 +94,6 @@ fn write_data_ref(good: &mut bool, sfi: u8, number: u8) {
     );
 }
 
-// Where a record begins in the file area.
-fn place_of(l: Loading, sfi: u8, nn: u8) -> usize {
-    let files = l.files;
-    let spot = table_places::spot_of(files, memory::least(l.count, TABLE_LIMIT), sfi, nn);
-    match spot {
-        Spot::At { base, size: _ } => base,
-        Spot::Nowhere => 0,
-    }
-}
-
 // Bytes in hexadecimal, as many lines as they need.
 fn write_dump(good: &mut bool, bytes: &[u8]) {
     let mut i: usize = 0;
@@ -117,19 +105,17 @@ fn write_dump(good: &mut bool, bytes: &[u8]) {
 
 // A record: its place, and the bytes that `shown` gives.
 fn write_record(good: &mut bool, c: Card, area: &[u8], sfi: u8, nn: u8) {
-    let mut number: u8 = 0;
-    let bytes = call_shown::shown(c, area, sfi, nn, &mut number);
-    if number != 0 {
+    let s = call_shown::shown(c, area, sfi, nn);
+    if s.number != 0 {
         write_form(good, b"    record # cannot be shown\n", &[nn as u64]);
         return;
     }
-    let place = place_of(c.loading, sfi, nn);
     write_form(
         good,
         b"    record #: offset #, # byte~\n",
-        &[nn as u64, place as u64, bytes.len() as u64],
+        &[nn as u64, s.start as u64, s.len as u64],
     );
-    write_dump(good, bytes);
+    write_dump(good, call_shown::part_shown(area, s));
 }
 
 // Records 1 to the last.

@@ -1,4 +1,5 @@
-// The program `show [--tell] [FILE]`: what `replay` reads, and at its end the card in words, for people.
+// The program `show [--tell] [FILE]`: what `replay` reads, and at its end the card in words, for people. They are made of
+// the card with its secrets veiled, so that no byte of these is at hand.
 mod facts;
 mod files;
 mod form;
@@ -12,7 +13,8 @@ fn show(fd: i32, label: &[u8]) -> u8 {
     if !outcome.ended {
         return outcome.status;
     }
-    let card = outcome.card;
+    let played = outcome.card;
+    let card = card_veiled::veiled(played);
     let mut good = true;
     write_facts(&mut good, card, outcome.events);
     write_table(&mut good, card, &area);
