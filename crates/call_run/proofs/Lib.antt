@@ -1,4 +1,3 @@
--- Records one after the other; and that each call has one result.
+-- Records one after the other.
 pub mod Records
 pub mod Running
-pub mod Single

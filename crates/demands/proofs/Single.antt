@@ -6,10 +6,10 @@ use Rattle.model.specs.declared.Card.{Card}
 use Rattle.model.specs.declared.Played.{Played}
 use Rattle.model.specs.declared.Ran.{Ran}
 use Rattle.model.specs.Rows.{takenOf}
-use Rattle.model.specs.Session.{Turn, Session, Shown}
+use Rattle.model.specs.declared.Shown.{Shown}
+use Rattle.model.specs.Session.{Turn, Session, shownOf, partShown}
 use Rattle.event_replies.specs.Plays.{Plays}
 use Rattle.call_run.specs.Runs.{Runs}
-use Rattle.call_shown.specs.Shows.{Shows}
 
 -- one event: the answer, the file area and the answer buffer
 pub play-single : (t : Turn) (before : List ℕ) (r r′ : Played) (area area′ after after′ : List ℕ)
@@ -29,10 +29,14 @@ run-single s before r r′ area area′ after after′ p q = (
   p .writes ∙ sym (q .writes),
 )
 
--- a shown record: the number and the bytes
-pub shown-single : (s : Shown) (number number′ : ℕ) (bytes bytes′ : List ℕ)
-    → Shows s number bytes → Shows s number′ bytes′ → (number ≡ number′) × (bytes ≡ bytes′)
-shown-single s number number′ bytes bytes′ p q = (p .numbers ∙ sym (q .numbers), p .shows ∙ sym (q .shows))
+-- a shown record: the number, the place and the length; and then its part
+pub shown-single : (c : Card) (a : List ℕ) (sfi nn : ℕ) (s s′ : Shown) → s ≡ shownOf c a sfi nn
+    → s′ ≡ shownOf c a sfi nn → s ≡ s′
+shown-single c a sfi nn s s′ p q = p ∙ sym q
+
+pub part-single : (a : List ℕ) (s : Shown) (bytes bytes′ : List ℕ) → bytes ≡ partShown a s → bytes′ ≡ partShown a s
+    → bytes ≡ bytes′
+part-single a s bytes bytes′ p q = p ∙ sym q
 
 -- the number of rows
 pub taken-single : (c : Card) (n n′ : ℕ) → n ≡ takenOf (c .loading .running .rows)

@@ -7,16 +7,8 @@ use native.Mathlib.Omega.{arith}
 use native.Mathlib.Nat.{add-sub-cancel-left, le-add-right}
 use lib.ListN.{length-take, length-drop}
 use borrow.Author.Needs.{needs}
-use Rattle.call_run.proofs.Running.{
-  Going,
-  begins,
-  begins-none,
-  still-good,
-  record-within,
-  as-many-words,
-  goes-on,
-  all-run,
-}
+use Rattle.call_run.proofs.Running.{Going, begins, begins-none, still-good, record-within, as-many-words}
+use Rattle.call_run.proofs.Running.{goes-on, all-run}
 use Rattle.call_run.proofs.run.Statement.{statement}
 use Rattle.call_run.proofs.run.Tie as tie
 
