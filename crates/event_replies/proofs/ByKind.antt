@@ -7,18 +7,8 @@ use lib.Dec.{eqb}
 use lib.ListN.{length}
 use borrow.Author.Tests.{eq-eqb, ne-eqb, eqb-true, eqb-false}
 use Rattle.model.specs.declared.Card.{Card}
-use Rattle.model.specs.Events.{
-  says,
-  locked,
-  errs,
-  select,
-  storeData,
-  stuck,
-  personalizing,
-  otherwise,
-  event,
-  commanded,
-}
+use Rattle.model.specs.Events.{says, locked, errs, select, storeData, stuck, personalizing, otherwise, event}
+use Rattle.model.specs.Events.{commanded}
 use Rattle.model.specs.Command.{command}
 use Rattle.event_kinds.specs.Faults.{eventOf}
 use Rattle.event_replies.specs.Lives.{isCommand}

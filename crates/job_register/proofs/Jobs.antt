@@ -17,21 +17,8 @@ use Rattle.theorem_cutting.specs.Job.{sessionOf}
 use Rattle.job_session.specs.Laid.{sessionWriting, sessionBytes, Lays}
 use Rattle.job_session.proofs.Sessions.{session-length, session-fits, session-few}
 use Rattle.job_register.specs.declared.Entry.{Entry}
-use Rattle.job_register.specs.Jobs.{
-  lineRoom,
-  recordRoom,
-  jobWriting,
-  eventsOf,
-  registerOf,
-  refusedAs,
-  entryOf,
-  textOf,
-  areaOf,
-  Registers,
-  Session,
-  Plays,
-  playedOf,
-}
+use Rattle.job_register.specs.Jobs.{lineRoom, recordRoom, jobWriting, eventsOf, registerOf, refusedAs, entryOf}
+use Rattle.job_register.specs.Jobs.{textOf, areaOf, Registers, Session, Plays, playedOf}
 
 -- a refusal leaves all lent memory as it was
 refusal : (chip room area out : List ℕ) (w : Writing) (n : ℕ) → n ≡ w .number → (n ≡ 0 → ⊥)

@@ -14,15 +14,8 @@ use Rattle.model.specs.declared.Written.{Written}
 use Rattle.model.specs.Stored.{chipOf, chipForm, recordSize}
 use Rattle.model.specs.Order.{orderLimit, complete, recordsFor, Writing, writeOf}
 use Rattle.theorem_cutting.specs.Packs as packs
-use Rattle.theorem_cutting.specs.Job.{
-  installRecord,
-  selectRecord,
-  installData,
-  instanceName,
-  jobWith,
-  sessionOf,
-  Accepted,
-}
+use Rattle.theorem_cutting.specs.Job.{installRecord, selectRecord, installData, instanceName, jobWith, sessionOf}
+use Rattle.theorem_cutting.specs.Job.{Accepted}
 use Rattle.theorem_cutting.proofs.Stored.{record-length}
 use Rattle.theorem_cutting.proofs.Commands.{records-few}
 use Rattle.theorem_cutting.proofs.Writes.{write-only, write-all}

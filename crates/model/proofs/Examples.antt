@@ -13,38 +13,9 @@ use Rattle.model.specs.Table.{descriptorOf, sizeOf}
 use Rattle.model.specs.Order.{complete, cutOf}
 use Rattle.model.specs.Lines.{replayOf}
 use Rattle.model.proofs.Computed.{computed}
-use Rattle.model.proofs.Scenes.{
-  Bytes,
-  chip,
-  select,
-  command,
-  challenge,
-  status,
-  serial,
-  startup,
-  counter,
-  key,
-  table,
-  df,
-  ef,
-  linear,
-  begun,
-  asked,
-  loads,
-  loaded,
-  Claim,
-  words,
-  ends,
-  rows,
-  answer,
-  starts,
-  descriptors,
-  stored,
-  secret,
-  count,
-  shows,
-  recordsOf,
-}
+use Rattle.model.proofs.Scenes.{Bytes, chip, select, command, challenge, status, serial, startup, counter, key}
+use Rattle.model.proofs.Scenes.{table, df, ef, linear, begun, asked, loads, loaded, Claim, words, ends, rows}
+use Rattle.model.proofs.Scenes.{answer, starts, descriptors, stored, secret, count, shows, recordsOf}
 
 -- how an example is stated
 pub data Example : Type 0 where

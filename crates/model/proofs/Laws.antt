@@ -16,19 +16,8 @@ use Rattle.model.specs.declared.Verdict.the-variants.{Passes}
 use Rattle.model.specs.Stored.{recordSize, dataRoom, recordOf}
 use Rattle.model.specs.Rows.{due}
 use Rattle.model.specs.Loads.{State}
-use Rattle.model.specs.Rules.{
-  Result,
-  went,
-  asked,
-  failed,
-  aloneAtStart,
-  bit1,
-  bit8,
-  challenged,
-  query,
-  roomIn,
-  lengthOk,
-}
+use Rattle.model.specs.Rules.{Result, went, asked, failed, aloneAtStart, bit1, bit8, challenged, query, roomIn}
+use Rattle.model.specs.Rules.{lengthOk}
 use Rattle.model.specs.Session.{recordsIn}
 use Rattle.model.specs.Order.{unitsIn, cutOf, stored, storedAll, recordsFor}
 

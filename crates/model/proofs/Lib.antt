@@ -17,3 +17,9 @@ pub mod InstallWitnesses
 pub mod AnswerWitnesses
 pub mod SoundWitnesses
 pub mod OpenSoundWitnesses
+pub mod GroupingWitnesses
+pub mod KeptWitnesses
+pub mod OpenWitnesses
+pub mod OrderWitnesses
+pub mod CallWitnesses
+pub mod LineWitnesses

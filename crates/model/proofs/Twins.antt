@@ -9,20 +9,8 @@ use Rattle.lists.specs.Bytes.{same}
 use Rattle.model.specs.Stored.{Event, noSecret}
 use Rattle.model.specs.Session.{Turn}
 use Rattle.model.proofs.Computed.{computed}
-use Rattle.model.proofs.Scenes.{
-  Bytes,
-  command,
-  status,
-  serial,
-  startup,
-  table,
-  df,
-  linear,
-  select,
-  asked,
-  turns,
-  endOf,
-}
+use Rattle.model.proofs.Scenes.{Bytes, command, status, serial, startup, table, df, linear, select, asked}
+use Rattle.model.proofs.Scenes.{turns, endOf}
 
 -- '3800' and the five keys, each of n bytes of one value
 abbrev pub keysOf : ℕ → ℕ → Bytes

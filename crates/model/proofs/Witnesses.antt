@@ -11,33 +11,9 @@ use Rattle.model.specs.Stored.{areaSize, Event, recordOf}
 use Rattle.model.specs.Session.{freshOf, playOf, runOf, shownOf}
 use Rattle.model.specs.Order.{writeOf}
 use Rattle.model.proofs.Computed.{computed}
-use Rattle.model.proofs.Scenes.{
-  Bytes,
-  chip,
-  blankCard,
-  event,
-  name,
-  selectableData,
-  install,
-  select,
-  command,
-  traceability,
-  status,
-  serial,
-  startup,
-  table,
-  df,
-  ef,
-  linear,
-  begun,
-  asked,
-  loads,
-  loaded,
-  turns,
-  endOf,
-  words,
-  number,
-}
+use Rattle.model.proofs.Scenes.{Bytes, chip, blankCard, event, name, selectableData, install, select, command}
+use Rattle.model.proofs.Scenes.{traceability, status, serial, startup, table, df, ef, linear, begun, asked}
+use Rattle.model.proofs.Scenes.{loads, loaded, turns, endOf, words, number}
 
 -- a session that a fresh card of capacity 10 ends with a word, in a pair of states
 pub record Last : Type 0 where
@@ -153,7 +129,7 @@ numbers =
     ∷ shownOf card area 0 0 .number
     ∷ shownOf (endOf (turns 10 personalized) .card) area 0x08 4 .number
     ∷ shownOf (endOf (turns 10 personalized) .card) area 0x08 3 .number
-    ∷ length (shownOf (endOf (turns 10 personalized) .card) area 0x08 3 .bytes)
+    ∷ shownOf (endOf (turns 10 personalized) .card) area 0x08 3 .len
     -- a fresh card: 7, and none
     ∷ freshOf (0 ∷ chip 10) .number
     ∷ freshOf (chip 10) .number

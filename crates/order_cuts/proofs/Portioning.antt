@@ -23,14 +23,8 @@ use Rattle.order_cuts.specs.Portions.{unitPortion, groupingPortion, head
 use Rattle.order_cuts.specs.Cuts.{Fitting, unitsOf}
 use Rattle.header.proofs.Units.{Within, header-within, units-at}
 use Rattle.model.proofs.Laws.{units-none}
-use Rattle.order_cuts.proofs.Packing.{
-  packed-fits,
-  packed-closes,
-  packed-single,
-  fitting-head,
-  fitting-tail,
-  fitting-single,
-}
+use Rattle.order_cuts.proofs.Packing.{packed-fits, packed-closes, packed-single, fitting-head, fitting-tail}
+use Rattle.order_cuts.proofs.Packing.{fitting-single}
 
 -- the command closes here: it has something, and the next one begins with the next unit
 pub record Closes (cur : List ℕ) (us : List (List ℕ)) : Type 0 where

@@ -11,30 +11,8 @@ use Rattle.model.specs.declared.Open.{Open}
 use Rattle.model.specs.declared.Open.the-variants.{Shut, Table, Record}
 use Rattle.model.specs.Rows.{rowAt}
 use Rattle.model.specs.Loads.{State}
-use Rattle.model.specs.Rules.{
-  Result,
-  went,
-  asked,
-  failed,
-  Rule,
-  thence,
-  ruleA,
-  ruleB,
-  ruleC,
-  ruleD,
-  ruleE,
-  ruleF,
-  ruleG,
-  ruleH,
-  tableBytes,
-  feeding,
-  fed,
-  openedAs,
-  spanned,
-  kept,
-  whole,
-  grouping,
-}
+use Rattle.model.specs.Rules.{Result, went, asked, failed, Rule, thence, ruleA, ruleB, ruleC, ruleD, ruleE, ruleF}
+use Rattle.model.specs.Rules.{ruleG, ruleH, tableBytes, feeding, fed, openedAs, spanned, kept, whole, grouping}
 use Rattle.theorem_sound.specs.Keeps.{Ends}
 
 -- these are the data from some place on, behind the three bytes of '9484'

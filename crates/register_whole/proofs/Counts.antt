@@ -7,17 +7,8 @@ use native.Mathlib.Omega.{arith}
 use lib.Dec.{eqb, leb}
 use lib.ListN.{length}
 use borrow.Author.Tests.{eqb-true, leb-true, le-leb, lt-leb, eq-eqb, ne-eqb}
-use Rattle.register_whole.specs.Whole.{
-  lineSize,
-  endSize,
-  mostEvents,
-  endsAs,
-  lastLoaded,
-  wholeBy,
-  linesIn,
-  wholeRegister,
-  eventsWhole,
-}
+use Rattle.register_whole.specs.Whole.{lineSize, endSize, mostEvents, endsAs, lastLoaded, wholeBy, linesIn}
+use Rattle.register_whole.specs.Whole.{wholeRegister, eventsWhole}
 use Rattle.lists.specs.Truth.{both}
 
 module _ (n : ℕ) (s : List ℕ) (so : wholeBy n s ≡ true) where

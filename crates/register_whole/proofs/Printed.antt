@@ -10,17 +10,8 @@ use borrow.Author.Tests.{le-leb, eq-eqb}
 use Rattle.lists.specs.Bytes.{eq-same}
 use Rattle.model.specs.Lines.{lineWith, endOf}
 use Rattle.print_numbers.proofs.Sizes.{length-line, length-end}
-use Rattle.register_whole.specs.Whole.{
-  lineSize,
-  endSize,
-  mostEvents,
-  wordPlace,
-  loadedSize,
-  loadedText,
-  endsAs,
-  lastLoaded,
-  wholeBy,
-}
+use Rattle.register_whole.specs.Whole.{lineSize, endSize, mostEvents, wordPlace, loadedSize, loadedText, endsAs}
+use Rattle.register_whole.specs.Whole.{lastLoaded, wholeBy}
 
 -- a line of a loaded card
 abbrev pub loadedLine : ℕ → ℕ → ℕ → ℕ → List ℕ

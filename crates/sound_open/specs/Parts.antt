@@ -4,18 +4,8 @@ use Prim.Native.Nat.{ℕ}
 use mathlib.Core.Bool.{Bool, _&&_}
 use Rattle.model.specs.declared.Life.{Life}
 use Rattle.model.specs.declared.Loading.{Loading}
-use Rattle.model.specs.Sound.{
-  gpOk,
-  internalOk,
-  nameOk,
-  selectedOk,
-  rowsOk,
-  tablePlaced,
-  secretsOk,
-  openOk,
-  pendingFits,
-  someMissing,
-}
+use Rattle.model.specs.Sound.{gpOk, internalOk, nameOk, selectedOk, rowsOk, tablePlaced, secretsOk, openOk}
+use Rattle.model.specs.Sound.{pendingFits, someMissing}
 
 abbrev pub lifePart : Life → ℕ → Bool
 lifePart f i = gpOk (f .gp) && internalOk i (f .gp) && nameOk (f .namelen) (f .gp) && selectedOk (f .selected)

@@ -14,19 +14,8 @@ use Rattle.model.specs.declared.Descriptor.{Descriptor}
 use Rattle.model.specs.declared.Spot.{Spot}
 use Rattle.model.specs.declared.Spot.the-variants.{Nowhere}
 use Rattle.model.specs.Stored.{noFile}
-use Rattle.model.specs.Table.{
-  clash,
-  clashes,
-  counterIn,
-  counterAmong,
-  sizeOf,
-  total,
-  spotIn,
-  spotFrom,
-  passed,
-  admitOf,
-  tablePasses,
-}
+use Rattle.model.specs.Table.{clash, clashes, counterIn, counterAmong, sizeOf, total, spotIn, spotFrom, passed}
+use Rattle.model.specs.Table.{admitOf, tablePasses}
 
 -- what the language reads past an array's end (never read): no bytes stand in its lists
 abbrev pub pastEnd : Descriptor

@@ -11,16 +11,8 @@ use Rattle.model.specs.declared.Verdict.the-variants.{Passes, Refuses}
 use Rattle.model.specs.Stored.{areaSize}
 use Rattle.model.specs.Table.{tableLimit, accessOk, dfOk, efType, sizesOk, dataRefOk, clash, sizeOf, total}
 use Rattle.table_flaws.specs.declared.Flaw.{Flaw}
-use Rattle.table_flaws.specs.declared.Flaw.the-variants.{
-  Nothing,
-  TooMany,
-  Access,
-  Df,
-  Sfi,
-  FileType,
-  EfType,
-  Status,
-}
+use Rattle.table_flaws.specs.declared.Flaw.the-variants.{Nothing, TooMany, Access, Df, Sfi, FileType, EfType}
+use Rattle.table_flaws.specs.declared.Flaw.the-variants.{Status}
 use Rattle.table_flaws.specs.declared.Flaw.the-variants.{Size, DataRef, LidUsed, SfiUsed, Total}
 
 -- a flaw where a rule is broken, and what later rules find where it is kept

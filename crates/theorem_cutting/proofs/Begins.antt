@@ -13,41 +13,11 @@ use Rattle.model.specs.declared.Verdict.{Verdict}
 use Rattle.model.specs.declared.Verdict.the-variants.{Passes, Refuses}
 use Rattle.model.specs.Rows.{tableRow, recordRow, noRow, rowTable, rowAt, rowOf, due}
 use Rattle.model.specs.Loads.{State, fileList, withInternal, changed}
-use Rattle.model.specs.Rules.{
-  Result,
-  went,
-  failed,
-  Rule,
-  thence,
-  _>>=_,
-  _>>_,
-  judged,
-  unless,
-  isQuery,
-  ruleC,
-  dueRow,
-  ruleD,
-  tagSpot,
-  roomIn,
-  roomOf,
-  ruleE,
-  lengthOk,
-  ruleF,
-  recordDone,
-}
+use Rattle.model.specs.Rules.{Result, went, failed, Rule, thence, _>>=_, _>>_, judged, unless, isQuery, ruleC, dueRow}
+use Rattle.model.specs.Rules.{ruleD, tagSpot, roomIn, roomOf, ruleE, lengthOk, ruleF, recordDone}
 use Rattle.model.specs.Order.{spannable}
-use Rattle.theorem_cutting.specs.Bytewise.{
-  Part,
-  between,
-  opened,
-  awaited,
-  started,
-  behind,
-  judgedHead,
-  begun,
-  Misses,
-  shut,
-}
+use Rattle.theorem_cutting.specs.Bytewise.{Part, between, opened, awaited, started, behind, judgedHead, begun}
+use Rattle.theorem_cutting.specs.Bytewise.{Misses, shut}
 use Rattle.theorem_cutting.specs.Contents.{Each, none, more}
 use Rattle.theorem_cutting.proofs.Values.{Closed, opened-misses}
 use Rattle.model.proofs.Laws.{length-most}

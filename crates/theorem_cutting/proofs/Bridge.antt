@@ -15,66 +15,17 @@ use Rattle.model.specs.declared.Verdict.the-variants.{Passes, Refuses}
 use Rattle.model.specs.Rows.{rowAt}
 use Rattle.model.specs.Header.{headerOf}
 use Rattle.model.specs.Loads.{State, fileList, withInternal, withTaken, withOpen, changed}
-use Rattle.model.specs.Rules.{
-  Result,
-  went,
-  asked,
-  failed,
-  Rule,
-  thence,
-  _>>=_,
-  _>>_,
-  judged,
-  unless,
-  does,
-  ruleA,
-  isQuery,
-  aloneAtStart,
-  query,
-  ruleB,
-  ruleC,
-  dueRow,
-  ruleD,
-  roomOf,
-  ruleE,
-  lengthOk,
-  ruleF,
-  ruleG,
-  kept,
-  recordDone,
-  recordBytes,
-  tagSpot,
-  fed,
-  openedAs,
-  spanned,
-  whole,
-  ruleH,
-  grouping,
-}
-use Rattle.theorem_cutting.specs.Bytewise.{
-  Part,
-  between,
-  ending,
-  opened,
-  awaited,
-  started,
-  behind,
-  judgedHead,
-  begun,
-  run,
-  atEnd,
-}
+use Rattle.model.specs.Rules.{Result, went, asked, failed, Rule, thence, _>>=_, _>>_, judged, unless, does, ruleA}
+use Rattle.model.specs.Rules.{isQuery, aloneAtStart, query, ruleB, ruleC, dueRow, ruleD, roomOf, ruleE, lengthOk}
+use Rattle.model.specs.Rules.{ruleF, ruleG, kept, recordDone, recordBytes, tagSpot, fed, openedAs, spanned, whole}
+use Rattle.model.specs.Rules.{ruleH, grouping}
+use Rattle.theorem_cutting.specs.Bytewise.{Part, between, ending, opened, awaited, started, behind, judgedHead}
+use Rattle.theorem_cutting.specs.Bytewise.{begun, run, atEnd}
 use Rattle.theorem_cutting.proofs.Splits.{thence-assoc}
 use Rattle.theorem_cutting.proofs.Opened.{Leaves, laid-none, done-over, done-same, Agrees, fed-run}
 use Rattle.theorem_cutting.proofs.Heads.{run-whole, run-torn, Long, header-long}
-use Rattle.theorem_cutting.proofs.Values.{
-  awaited-whole,
-  awaited-short,
-  Closed,
-  kept-closed,
-  not-table,
-  opened-misses,
-}
+use Rattle.theorem_cutting.proofs.Values.{awaited-whole, awaited-short, Closed, kept-closed, not-table}
+use Rattle.theorem_cutting.proofs.Values.{opened-misses}
 
 -- two ways on from a rule that only judges agree where they do so after it has passed
 after-judged : {A A′ B : Type 0} (v : Verdict) (s : State) (f : ℕ → Rule A) (g : ℕ → Rule A′) (K : A → Rule B)

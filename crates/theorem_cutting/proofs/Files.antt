@@ -32,19 +32,8 @@ use Rattle.theorem_cutting.proofs.Writes.{write-only, write-all, fresh-
 use Rattle.theorem_cutting.proofs.Laid.{outside-all, zeros-get, length-all, kept-all}
 use Rattle.theorem_cutting.proofs.Passed.{both, Passed, grouping-passed}
 use Rattle.theorem_cutting.proofs.Listed.{Fits, Gives, Leaving, early-row, before-stays}
-use Rattle.theorem_cutting.proofs.Filled.{
-  Filled,
-  Seen,
-  early,
-  late,
-  seen-filled,
-  due-none,
-  taken-high,
-  g,
-  after,
-  record-passed,
-  seen-more,
-}
+use Rattle.theorem_cutting.proofs.Filled.{Filled, Seen, early, late, seen-filled, due-none, taken-high, g}
+use Rattle.theorem_cutting.proofs.Filled.{after, record-passed, seen-more}
 use Rattle.lists.specs.Truth.{and-r, never}
 
 -- the groupings from a whole header on

@@ -18,21 +18,8 @@ use Rattle.model.specs.declared.Verdict.the-variants.{Passes}
 use Rattle.model.specs.Stored.{areaSize}
 use Rattle.model.specs.Rows.{rowTable, rowAt, rowOf, taken, withRow, readyFor, noneFrom, rising, due}
 use Rattle.model.specs.Loads.{State, fileList, withInternal, withOpen, changed}
-use Rattle.model.specs.Rules.{
-  Result,
-  went,
-  asked,
-  failed,
-  tagSpot,
-  laid,
-  roomOf,
-  lengthOk,
-  recordDone,
-  recordBytes,
-  fed,
-  spanned,
-  ruleH,
-}
+use Rattle.model.specs.Rules.{Result, went, asked, failed, tagSpot, laid, roomOf, lengthOk, recordDone, recordBytes}
+use Rattle.model.specs.Rules.{fed, spanned, ruleH}
 use Rattle.theorem_cutting.specs.Job.{stateOf}
 use Rattle.theorem_cutting.specs.Contents.{Grouped, Each}
 use Rattle.model.proofs.Laws.{length-most, room-spot}

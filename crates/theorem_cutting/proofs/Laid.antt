@@ -6,18 +6,8 @@ use mathlib.Core.List.{List, [], _∷_, _++_}
 use native.Mathlib.Omega.{arith}
 use native.Mathlib.Nat.{add-zero, add-suc, suc-add}
 use lib.Dec.{leb}
-use lib.ListN.{
-  length,
-  getD,
-  drop,
-  set,
-  length-set,
-  length-take,
-  length-drop,
-  length-append,
-  length-replicate,
-  List·getD-eq-default,
-}
+use lib.ListN.{length, getD, drop, set, length-set, length-take, length-drop, length-append, length-replicate}
+use lib.ListN.{List·getD-eq-default}
 use lib.Seq.{getD-set-same, getD-set-other, getD-take, getD-drop, ext-getD}
 use borrow.Author.Tests.{leb-true, leb-false}
 use Rattle.lists.specs.Bytes.{part, zeros, padded}

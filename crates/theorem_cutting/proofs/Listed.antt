@@ -22,28 +22,8 @@ use Rattle.model.specs.Stored.{areaSize}
 use Rattle.model.specs.Rows.{descriptorSize, rowTable, rowAt, inRow, rowFrom, rowOf, noneFrom}
 use Rattle.model.specs.Table.{tableLimit, accessesOk, dfOk, efOk, sizeOf, rulesOk, total, admitOf, descriptorOf}
 use Rattle.model.specs.Loads.{State, fileList, withOpen, withTaken, changed}
-use Rattle.model.specs.Rules.{
-  Result,
-  went,
-  asked,
-  failed,
-  Rule,
-  thence,
-  _>>_,
-  does,
-  described,
-  startupOk,
-  startup,
-  kept,
-  tableDone,
-  tableByte,
-  inTable,
-  tableBytes,
-  fed,
-  spanned,
-  whole,
-  ruleH,
-}
+use Rattle.model.specs.Rules.{Result, went, asked, failed, Rule, thence, _>>_, does, described, startupOk, startup}
+use Rattle.model.specs.Rules.{kept, tableDone, tableByte, inTable, tableBytes, fed, spanned, whole, ruleH}
 use Rattle.theorem_cutting.proofs.Opened.{Leaves}
 use Rattle.lists.specs.Truth.{and-l, never}
 

@@ -20,37 +20,10 @@ use Rattle.model.specs.declared.Verdict.the-variants.{Passes, Refuses}
 use Rattle.model.specs.Rows.{descriptorSize}
 use Rattle.model.specs.Table.{descriptorOf, admitOf}
 use Rattle.model.specs.Loads.{State, fileList, withOpen, changed}
-use Rattle.model.specs.Rules.{
-  Result,
-  went,
-  asked,
-  failed,
-  Rule,
-  thence,
-  described,
-  tableDone,
-  recordDone,
-  tableByte,
-  tableBytes,
-  inTable,
-  tagSpot,
-  laid,
-  recordBytes,
-  feeding,
-  fed,
-}
-use Rattle.theorem_cutting.specs.Bytewise.{
-  Part,
-  between,
-  openByte,
-  step,
-  run,
-  atEnd,
-  Misses,
-  shut,
-  table,
-  stored,
-}
+use Rattle.model.specs.Rules.{Result, went, asked, failed, Rule, thence, described, tableDone, recordDone, tableByte}
+use Rattle.model.specs.Rules.{tableBytes, inTable, tagSpot, laid, recordBytes, feeding, fed}
+use Rattle.theorem_cutting.specs.Bytewise.{Part, between, openByte, step, run, atEnd, Misses, shut, table}
+use Rattle.theorem_cutting.specs.Bytewise.{stored}
 
 pub misses-none : (o : Open) → Misses o 0 → o ≡ Shut
 misses-none Shut shut = refl

@@ -13,31 +13,9 @@ use Rattle.model.specs.declared.Verdict.the-variants.{Passes, Refuses}
 use Rattle.model.specs.Rows.{rowAt, rowOf, due}
 use Rattle.model.specs.Header.{headerOf}
 use Rattle.model.specs.Loads.{State, fileList, withInternal, changed}
-use Rattle.model.specs.Rules.{
-  Result,
-  went,
-  asked,
-  failed,
-  Rule,
-  thence,
-  judged,
-  unless,
-  wholeHead,
-  ruleA,
-  isQuery,
-  query,
-  ruleB,
-  ruleC,
-  dueRow,
-  ruleD,
-  roomOf,
-  ruleE,
-  lengthOk,
-  ruleF,
-  ruleG,
-  ruleH,
-  grouping,
-}
+use Rattle.model.specs.Rules.{Result, went, asked, failed, Rule, thence, judged, unless, wholeHead, ruleA, isQuery}
+use Rattle.model.specs.Rules.{query, ruleB, ruleC, dueRow, ruleD, roomOf, ruleE, lengthOk, ruleF, ruleG, ruleH}
+use Rattle.model.specs.Rules.{grouping}
 use Rattle.theorem_cutting.proofs.Bridge.{passes-true}
 use Rattle.theorem_cutting.proofs.Begins.{due-row}
 use Rattle.theorem_cutting.proofs.Splits.{failed-not, asked-not}

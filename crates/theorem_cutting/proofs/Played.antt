@@ -16,23 +16,8 @@ use Rattle.model.specs.Header.{headerOf}
 use Rattle.model.specs.Loads.{State, withInternal, withTaken, changed}
 use Rattle.model.specs.Rules.{went, ruleA, ruleB, query, challenged, fed, grouping}
 use Rattle.model.specs.Command.{walk, ready, theEnd, command}
-use Rattle.model.specs.Events.{
-  says,
-  gives,
-  isName,
-  nameFci,
-  namesIn,
-  installForm,
-  installing,
-  install,
-  select,
-  commanded,
-  storeData,
-  personalizing,
-  otherwise,
-  event,
-  answerTo,
-}
+use Rattle.model.specs.Events.{says, gives, isName, nameFci, namesIn, installForm, installing, install, select}
+use Rattle.model.specs.Events.{commanded, storeData, personalizing, otherwise, event, answerTo}
 use Rattle.model.specs.Session.{replied, turnOf, Run, turned, after, runFrom}
 use Rattle.model.specs.Order.{challengedState, stored, storedAll}
 use Rattle.theorem_cutting.specs.Bytewise.{between, run, Misses}

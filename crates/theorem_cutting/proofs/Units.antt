@@ -16,19 +16,8 @@ use Rattle.model.specs.Header.{headerOf}
 use Rattle.model.specs.Loads.{State, withTaken, changed}
 use Rattle.model.specs.Rules.{Result, went, asked, failed, thence, does, _>>_, kept}
 use Rattle.model.specs.Order.{single, groupingUnits, unitsBy, unitsIn}
-use Rattle.theorem_cutting.specs.Bytewise.{
-  Part,
-  between,
-  value,
-  ending,
-  awaited,
-  begun,
-  step,
-  run,
-  atEnd,
-  Misses,
-  shut,
-}
+use Rattle.theorem_cutting.specs.Bytewise.{Part, between, value, ending, awaited, begun, step, run, atEnd}
+use Rattle.theorem_cutting.specs.Bytewise.{Misses, shut}
 use Rattle.theorem_cutting.specs.Packs.{longestUnit}
 use Rattle.theorem_cutting.proofs.Splits.{run-append, thence-went, failed-not, asked-not}
 use Rattle.theorem_cutting.proofs.Opened.{misses-none, Leaves, Rests, step-rests}

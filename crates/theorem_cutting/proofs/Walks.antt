@@ -20,35 +20,13 @@ use Rattle.model.specs.Loads.{State}
 use Rattle.model.specs.Rules.{Rule, thence, fed, grouping}
 use Rattle.model.specs.Command.{walk, theEnd, command}
 use Rattle.model.specs.Rows.{taken}
-use Rattle.model.specs.Sound.{
-  gpOk,
-  internalOk,
-  nameOk,
-  selectedOk,
-  descriptorsOk,
-  rowsOk,
-  tablePlaced,
-  secretsOk,
-  openOk,
-  tableFits,
-  pendingFits,
-  someMissing,
-  soundWith,
-  sound,
-}
+use Rattle.model.specs.Sound.{gpOk, internalOk, nameOk, selectedOk, descriptorsOk, rowsOk, tablePlaced, secretsOk}
+use Rattle.model.specs.Sound.{openOk, tableFits, pendingFits, someMissing, soundWith, sound}
 use Rattle.model.specs.declared.Life.{Life}
 use Rattle.theorem_cutting.specs.Bytewise.{between, run, atEnd, step, asks, Misses, shut, table, stored}
 use Rattle.theorem_cutting.proofs.Splits.{thence-assoc}
-use Rattle.theorem_cutting.proofs.Opened.{
-  misses-none,
-  fed-shut,
-  fed-none,
-  fed-step,
-  step-rests,
-  Agrees,
-  fed-then,
-  fed-run,
-}
+use Rattle.theorem_cutting.proofs.Opened.{misses-none, fed-shut, fed-none, fed-step, step-rests, Agrees}
+use Rattle.theorem_cutting.proofs.Opened.{fed-then, fed-run}
 use Rattle.theorem_cutting.proofs.Values.{Closed}
 use Rattle.theorem_cutting.proofs.Bridge.{Plain, plain-behind, plain-other, grouping-run, grouping-torn}
 use Rattle.lists.specs.Truth.{never, and-l, and-r}

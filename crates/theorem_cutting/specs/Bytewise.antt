@@ -14,25 +14,8 @@ use Rattle.model.specs.declared.Header.the-variants.{Torn, Whole}
 use Rattle.model.specs.Rows.{rowAt}
 use Rattle.model.specs.Header.{headerOf}
 use Rattle.model.specs.Loads.{State, withTaken, withOpen, changed}
-use Rattle.model.specs.Rules.{
-  went,
-  failed,
-  Rule,
-  thence,
-  _>>=_,
-  _>>_,
-  does,
-  isQuery,
-  ruleC,
-  ruleD,
-  ruleE,
-  ruleF,
-  kept,
-  recordDone,
-  tableByte,
-  recordBytes,
-  openedAs,
-}
+use Rattle.model.specs.Rules.{went, failed, Rule, thence, _>>=_, _>>_, does, isQuery, ruleC, ruleD, ruleE, ruleF}
+use Rattle.model.specs.Rules.{kept, recordDone, tableByte, recordBytes, openedAs}
 
 -- Where a command's walk stands: between groupings, or in a value that may run on (the state's open value says
 -- which); in a header that is not yet whole; in a value that may not, with its row, how many bytes come after the

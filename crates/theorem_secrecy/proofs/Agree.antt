@@ -5,32 +5,13 @@ use mathlib.Core.Bool.{Bool, true, false, cond, not, true≢false}
 use mathlib.Core.List.{List, [], _++_}
 use native.Mathlib.Omega.{arith}
 use lib.Dec.{ltb}
-use lib.ListN.{
-  length,
-  take,
-  drop,
-  length-take,
-  length-drop,
-  length-replicate,
-  List·getD-append,
-  List·getD-eq-default,
-  getD-replicate,
-}
+use lib.ListN.{length, take, drop, length-take, length-drop, length-replicate, List·getD-append, List·getD-eq-default}
+use lib.ListN.{getD-replicate}
 use lib.Seq.{ext-getD, getD-append-add, getD-take, getD-drop}
 use borrow.Author.Tests.{ltb-true, ltb-false}
 use Rattle.lists.specs.Bytes.{byteAt}
-use Rattle.theorem_secrecy.specs.View.{
-  Mark,
-  seen,
-  secret,
-  seens,
-  secretMarks,
-  markAt,
-  Hiding,
-  every,
-  shownAs,
-  view,
-}
+use Rattle.theorem_secrecy.specs.View.{Mark, seen, secret, seens, secretMarks, markAt, Hiding, every, shownAs}
+use Rattle.theorem_secrecy.specs.View.{view}
 use Rattle.theorem_secrecy.specs.Alike.{shows, ButForSecrets}
 use Rattle.theorem_secrecy.proofs.Marks.{length-view}
 use Rattle.theorem_secrecy.proofs.Leaves.{byte-view}

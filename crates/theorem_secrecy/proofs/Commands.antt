@@ -8,17 +8,8 @@ use Rattle.model.specs.Header.{headerOf}
 use Rattle.model.specs.Loads.{State}
 use Rattle.model.specs.Rules.{Result, went, asked, failed, Rule, thence, fed, grouping}
 use Rattle.model.specs.Command.{walk, ready, theEnd, command}
-use Rattle.theorem_secrecy.specs.View.{
-  Mark,
-  seens,
-  groupingMarks,
-  missingIn,
-  marksBy,
-  marksWalk,
-  marksCommand,
-  Hiding,
-  view,
-}
+use Rattle.theorem_secrecy.specs.View.{Mark, seens, groupingMarks, missingIn, marksBy, marksWalk, marksCommand}
+use Rattle.theorem_secrecy.specs.View.{Hiding, view}
 use Rattle.theorem_secrecy.specs.Veil.{veilState}
 use Rattle.theorem_secrecy.proofs.Marks.{length-view}
 use Rattle.theorem_secrecy.proofs.Veils.{veilResult, veil-cond, veil-thence}

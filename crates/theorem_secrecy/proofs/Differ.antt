@@ -22,28 +22,9 @@ use Rattle.model.specs.Header.{headerOf}
 use Rattle.model.specs.Loads.{State}
 use Rattle.model.specs.Rules.{Result, went, asked, failed, fed, grouping}
 use Rattle.model.specs.Session.{Turn, turnOf}
-use Rattle.theorem_secrecy.specs.View.{
-  Mark,
-  seen,
-  seens,
-  secretMarks,
-  isSecret,
-  valueMarks,
-  groupingMarks,
-  missingIn,
-  marksBy,
-  marksWalk,
-  marksCommand,
-  marksData,
-  marksIn,
-  walked,
-  stateIn,
-  Hiding,
-  every,
-  view,
-  viewRecord,
-  viewsFrom,
-}
+use Rattle.theorem_secrecy.specs.View.{Mark, seen, seens, secretMarks, isSecret, valueMarks, groupingMarks}
+use Rattle.theorem_secrecy.specs.View.{missingIn, marksBy, marksWalk, marksCommand, marksData, marksIn, walked}
+use Rattle.theorem_secrecy.specs.View.{stateIn, Hiding, every, view, viewRecord, viewsFrom}
 use Rattle.theorem_secrecy.specs.Veil.{veil, veilState, veilTurn}
 use Rattle.theorem_secrecy.specs.Alike.{Differs, AlikeSessions}
 use Rattle.model.proofs.Laws.{Stops}
@@ -56,17 +37,8 @@ use Rattle.theorem_secrecy.proofs.Sessions.{alike-sessions}
 use Rattle.theorem_secrecy.proofs.Keeps.{Keeps, keeps-fed, keeps-grouping}
 use Rattle.theorem_secrecy.proofs.Told.{torn-fails}
 use Rattle.theorem_secrecy.proofs.Goes.{goes, goes-fed, goes-grouping}
-use Rattle.theorem_secrecy.proofs.Agree.{
-  But,
-  but-hidden,
-  hidden-view,
-  but-drop,
-  but-none,
-  but-seen,
-  but-take,
-  but-view,
-  but-front,
-}
+use Rattle.theorem_secrecy.proofs.Agree.{But, but-hidden, hidden-view, but-drop, but-none, but-seen, but-take}
+use Rattle.theorem_secrecy.proofs.Agree.{but-view, but-front}
 
 abbrev stateOf : Result (List ℕ) → State
 stateOf (went left s) = s

@@ -10,34 +10,9 @@ use Rattle.model.specs.declared.Card.{Card}
 use Rattle.model.specs.Stored.{Event, eventIn, paddedZero}
 use Rattle.model.specs.Rules.{Result, went, asked, failed}
 use Rattle.model.specs.Command.{command}
-use Rattle.model.specs.Events.{
-  Reply,
-  withLoading,
-  locked,
-  says,
-  Names,
-  isName,
-  nameFci,
-  fullFci,
-  namesIn,
-  installing,
-  makingSelectable,
-  install,
-  invalidated,
-  select,
-  lock,
-  unlock,
-  deselect,
-  foreign,
-  answerTo,
-  errs,
-  commanded,
-  storeData,
-  stuck,
-  personalizing,
-  otherwise,
-  event,
-}
+use Rattle.model.specs.Events.{Reply, withLoading, locked, says, Names, isName, nameFci, fullFci, namesIn, installing}
+use Rattle.model.specs.Events.{makingSelectable, install, invalidated, select, lock, unlock, deselect, foreign}
+use Rattle.model.specs.Events.{answerTo, errs, commanded, storeData, stuck, personalizing, otherwise, event}
 use Rattle.model.specs.Session.{replied, turnOf}
 use Rattle.theorem_secrecy.specs.View.{marksCommand, walked, stateIn, Hiding, view}
 use Rattle.theorem_secrecy.specs.Veil.{veil}

@@ -15,37 +15,9 @@ use Rattle.model.specs.declared.Verdict.{Verdict}
 use Rattle.model.specs.Rows.{rowOf, rowAt, rowTable, due}
 use Rattle.model.specs.Header.{headerOf}
 use Rattle.model.specs.Loads.{State, fileList, withTaken, withOpen, changed}
-use Rattle.model.specs.Rules.{
-  Result,
-  went,
-  asked,
-  failed,
-  Rule,
-  thence,
-  judged,
-  unless,
-  isQuery,
-  ruleA,
-  ruleB,
-  ruleC,
-  ruleD,
-  ruleE,
-  ruleF,
-  ruleG,
-  ruleH,
-  dueRow,
-  roomOf,
-  lengthOk,
-  kept,
-  startup,
-  openedAs,
-  feeding,
-  fed,
-  spanned,
-  whole,
-  tableBytes,
-  grouping,
-}
+use Rattle.model.specs.Rules.{Result, went, asked, failed, Rule, thence, judged, unless, isQuery, ruleA, ruleB, ruleC}
+use Rattle.model.specs.Rules.{ruleD, ruleE, ruleF, ruleG, ruleH, dueRow, roomOf, lengthOk, kept, startup, openedAs}
+use Rattle.model.specs.Rules.{feeding, fed, spanned, whole, tableBytes, grouping}
 use Rattle.theorem_secrecy.specs.View.{isSecret, missingIn, Hiding}
 use Rattle.theorem_secrecy.specs.Veil.{veilState}
 use Rattle.theorem_secrecy.proofs.Veils.{veilResult}

@@ -13,41 +13,11 @@ use Rattle.model.specs.declared.Verdict.{Verdict}
 use Rattle.model.specs.Rows.{rowOf, rowAt, rowTable, due}
 use Rattle.model.specs.Header.{headerOf}
 use Rattle.model.specs.Loads.{State, fileList, withTaken, withOpen, withSecret, changed}
-use Rattle.model.specs.Rules.{
-  went,
-  Rule,
-  thence,
-  judged,
-  unless,
-  wholeHead,
-  isQuery,
-  ruleA,
-  ruleB,
-  ruleC,
-  ruleD,
-  ruleE,
-  ruleF,
-  ruleG,
-  ruleH,
-  dueRow,
-  roomOf,
-  lengthOk,
-  kept,
-  openedAs,
-  spanned,
-  whole,
-  grouping,
-}
-use Rattle.theorem_secrecy.specs.View.{
-  Mark,
-  seens,
-  secretMarks,
-  valueMarks,
-  groupingMarks,
-  missingIn,
-  Hiding,
-  view,
-}
+use Rattle.model.specs.Rules.{went, Rule, thence, judged, unless, wholeHead, isQuery, ruleA, ruleB, ruleC, ruleD}
+use Rattle.model.specs.Rules.{ruleE, ruleF, ruleG, ruleH, dueRow, roomOf, lengthOk, kept, openedAs, spanned, whole}
+use Rattle.model.specs.Rules.{grouping}
+use Rattle.theorem_secrecy.specs.View.{Mark, seens, secretMarks, valueMarks, groupingMarks, missingIn, Hiding}
+use Rattle.theorem_secrecy.specs.View.{view}
 use Rattle.theorem_secrecy.specs.Veil.{veilState}
 use Rattle.theorem_secrecy.proofs.Marks.{take-secret, drop-secret}
 use Rattle.theorem_secrecy.proofs.Veils.{keptAs, veilResult, veil-secret}

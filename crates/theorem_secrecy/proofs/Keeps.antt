@@ -20,38 +20,9 @@ use Rattle.model.specs.declared.Verdict.the-variants.{Passes}
 use Rattle.model.specs.Rows.{rowOf, rowAt, rowTable, due}
 use Rattle.model.specs.Header.{headerOf}
 use Rattle.model.specs.Loads.{State, fileList, withTaken, withOpen, withSecret, changed}
-use Rattle.model.specs.Rules.{
-  Result,
-  went,
-  asked,
-  failed,
-  Rule,
-  thence,
-  judged,
-  unless,
-  wholeHead,
-  isQuery,
-  ruleA,
-  ruleB,
-  ruleC,
-  ruleD,
-  ruleE,
-  ruleF,
-  ruleG,
-  ruleH,
-  dueRow,
-  roomOf,
-  lengthOk,
-  kept,
-  openedAs,
-  feeding,
-  fed,
-  spanned,
-  whole,
-  tableBytes,
-  recordBytes,
-  grouping,
-}
+use Rattle.model.specs.Rules.{Result, went, asked, failed, Rule, thence, judged, unless, wholeHead, isQuery, ruleA}
+use Rattle.model.specs.Rules.{ruleB, ruleC, ruleD, ruleE, ruleF, ruleG, ruleH, dueRow, roomOf, lengthOk, kept}
+use Rattle.model.specs.Rules.{openedAs, feeding, fed, spanned, whole, tableBytes, recordBytes, grouping}
 use Rattle.theorem_secrecy.specs.View.{Mark, seen, seens, secretMarks, valueMarks, groupingMarks, missingIn}
 use Rattle.theorem_secrecy.specs.Kept.{keptBy}
 use Rattle.theorem_secrecy.proofs.Veils.{keptAs}
@@ -59,18 +30,8 @@ use Rattle.theorem_secrecy.proofs.Rules.{no-query}
 use Rattle.model.specs.Stages.{fromB, fromC, fromD, fromE, fromF, fromG}
 use Rattle.theorem_secrecy.proofs.RowCases.{row-cases}
 use Rattle.theorem_secrecy.proofs.Places.{kept-append, kept-seen, length-secretMarks, secret-kept}
-use Rattle.theorem_secrecy.proofs.Stays.{
-  secretsOf,
-  stays-b,
-  stays-c,
-  stays-judged,
-  stays-startup,
-  stays-table,
-  stays-record,
-  judged-passes,
-  unless-passes,
-  secret-size,
-}
+use Rattle.theorem_secrecy.proofs.Stays.{secretsOf, stays-b, stays-c, stays-judged, stays-startup, stays-table}
+use Rattle.theorem_secrecy.proofs.Stays.{stays-record, judged-passes, unless-passes, secret-size}
 
 -- a rule came to r on bytes b, and the secrets were xs: where it passed it took the bytes that `front` marks, and
 -- kept those that are a secret's; where it did not, it kept nothing

@@ -16,40 +16,12 @@ use Rattle.model.specs.Header.{headerOf}
 use Rattle.model.specs.Loads.{State}
 use Rattle.model.specs.Rules.{Result, went, asked, failed, Rule, thence, fed, grouping}
 use Rattle.model.specs.Command.{walk, theEnd, command}
-use Rattle.model.specs.Events.{
-  Reply,
-  locked,
-  withLoading,
-  install,
-  installing,
-  makingSelectable,
-  select,
-  lock,
-  unlock,
-  deselect,
-  foreign,
-  errs,
-  commanded,
-  storeData,
-  stuck,
-  personalizing,
-  otherwise,
-  event,
-}
+use Rattle.model.specs.Events.{Reply, locked, withLoading, install, installing, makingSelectable, select, lock}
+use Rattle.model.specs.Events.{unlock, deselect, foreign, errs, commanded, storeData, stuck, personalizing, otherwise}
+use Rattle.model.specs.Events.{event}
 use Rattle.model.specs.Session.{Turn, turnOf}
-use Rattle.theorem_secrecy.specs.View.{
-  Mark,
-  seens,
-  groupingMarks,
-  missingIn,
-  marksBy,
-  marksWalk,
-  marksCommand,
-  marksData,
-  marksIn,
-  walked,
-  stateIn,
-}
+use Rattle.theorem_secrecy.specs.View.{Mark, seens, groupingMarks, missingIn, marksBy, marksWalk, marksCommand}
+use Rattle.theorem_secrecy.specs.View.{marksData, marksIn, walked, stateIn}
 use Rattle.theorem_secrecy.specs.Kept.{keptBy}
 use Rattle.theorem_secrecy.proofs.Events.{unselected, stores, Walks, walks, played}
 use Rattle.theorem_secrecy.proofs.Places.{kept-nil, kept-none, kept-append, kept-seen, kept-within}

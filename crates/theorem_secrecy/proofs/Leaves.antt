@@ -11,21 +11,8 @@ use Rattle.model.specs.Stored.{eventIn, paddedZero}
 use Rattle.model.specs.Header.{headerOf}
 use Rattle.model.specs.Loads.{State}
 use Rattle.model.specs.Rules.{asked, failed, grouping}
-use Rattle.theorem_secrecy.specs.View.{
-  Mark,
-  seen,
-  secret,
-  groupingMarks,
-  marksBy,
-  marksWalk,
-  marksIn,
-  markAt,
-  walked,
-  Hiding,
-  shownAs,
-  view,
-  viewRecord,
-}
+use Rattle.theorem_secrecy.specs.View.{Mark, seen, secret, groupingMarks, marksBy, marksWalk, marksIn, markAt}
+use Rattle.theorem_secrecy.specs.View.{walked, Hiding, shownAs, view, viewRecord}
 use Rattle.theorem_secrecy.proofs.Marks.{length-view, shown-zero}
 
 module _ (z : Hiding) where

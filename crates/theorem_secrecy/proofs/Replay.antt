@@ -11,20 +11,8 @@ use Rattle.model.specs.declared.Card.{Card}
 use Rattle.model.specs.Stored.{chipSize, chipOf, chipForm, freshCard, eventIn, paddedZero, areaSize, answerRoom}
 use Rattle.model.specs.Session.{Turn, playOf, recordsIn, eventsIn}
 use Rattle.model.specs.Lines.{lineOf, endOf, linesFrom, replayOf}
-use Rattle.theorem_secrecy.specs.View.{
-  Mark,
-  marksData,
-  marksIn,
-  walked,
-  Hiding,
-  every,
-  view,
-  viewRecord,
-  playable,
-  viewPlay,
-  viewPlays,
-  replayViews,
-}
+use Rattle.theorem_secrecy.specs.View.{Mark, marksData, marksIn, walked, Hiding, every, view, viewRecord}
+use Rattle.theorem_secrecy.specs.View.{playable, viewPlay, viewPlays, replayViews}
 use Rattle.theorem_secrecy.specs.Veil.{veil}
 use Rattle.theorem_secrecy.proofs.Marks.{take-seen}
 use Rattle.theorem_secrecy.proofs.Heads.{byte-kept}

@@ -15,28 +15,9 @@ use Rattle.model.specs.declared.Verdict.the-variants.{Passes, Refuses}
 use Rattle.model.specs.Rows.{due}
 use Rattle.model.specs.Table.{descriptorOf, admitOf}
 use Rattle.model.specs.Loads.{State, fileList, withInternal, withTaken, withOpen, withFile, changed}
-use Rattle.model.specs.Rules.{
-  Result,
-  went,
-  asked,
-  failed,
-  judged,
-  isQuery,
-  challenged,
-  query,
-  ruleB,
-  ruleC,
-  startup,
-  tableDone,
-  recordDone,
-  described,
-  tableByte,
-  inTable,
-  tableBytes,
-  laid,
-  tagSpot,
-  recordBytes,
-}
+use Rattle.model.specs.Rules.{Result, went, asked, failed, judged, isQuery, challenged, query, ruleB, ruleC, startup}
+use Rattle.model.specs.Rules.{tableDone, recordDone, described, tableByte, inTable, tableBytes, laid, tagSpot}
+use Rattle.model.specs.Rules.{recordBytes}
 use Rattle.theorem_secrecy.specs.View.{Hiding}
 use Rattle.theorem_secrecy.specs.Veil.{veilState}
 use Rattle.theorem_secrecy.proofs.Veils.{veilResult, veil-cond, veil-thence}

@@ -15,28 +15,9 @@ use Rattle.model.specs.declared.Verdict.{Verdict}
 use Rattle.model.specs.declared.Verdict.the-variants.{Passes, Refuses}
 use Rattle.model.specs.Table.{descriptorOf, admitOf}
 use Rattle.model.specs.Loads.{State, fileList}
-use Rattle.model.specs.Rules.{
-  Result,
-  went,
-  asked,
-  failed,
-  Rule,
-  thence,
-  judged,
-  unless,
-  challenged,
-  query,
-  ruleB,
-  ruleC,
-  startup,
-  tableDone,
-  recordDone,
-  described,
-  tableByte,
-  inTable,
-  tableBytes,
-  recordBytes,
-}
+use Rattle.model.specs.Rules.{Result, went, asked, failed, Rule, thence, judged, unless, challenged, query, ruleB}
+use Rattle.model.specs.Rules.{ruleC, startup, tableDone, recordDone, described, tableByte, inTable, tableBytes}
+use Rattle.model.specs.Rules.{recordBytes}
 use Rattle.model.specs.Command.{theEnd}
 use Rattle.lists.specs.Truth.{same-if}
 

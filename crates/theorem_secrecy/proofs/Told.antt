@@ -17,24 +17,9 @@ use Rattle.model.specs.Header.{headerOf}
 use Rattle.model.specs.Loads.{State}
 use Rattle.model.specs.Rules.{Result, went, asked, failed, fed, ruleA, grouping}
 use Rattle.model.specs.Session.{Turn, turnOf}
-use Rattle.theorem_secrecy.specs.View.{
-  Mark,
-  seens,
-  groupingMarks,
-  missingIn,
-  marksBy,
-  marksWalk,
-  marksCommand,
-  marksData,
-  marksIn,
-  marksFrom,
-  walked,
-  stateIn,
-  Hiding,
-  view,
-  viewRecord,
-  viewsFrom,
-}
+use Rattle.theorem_secrecy.specs.View.{Mark, seens, groupingMarks, missingIn, marksBy, marksWalk, marksCommand}
+use Rattle.theorem_secrecy.specs.View.{marksData, marksIn, marksFrom, walked, stateIn, Hiding, view, viewRecord}
+use Rattle.theorem_secrecy.specs.View.{viewsFrom}
 use Rattle.theorem_secrecy.specs.Veil.{veil, veilState}
 use Rattle.theorem_secrecy.proofs.Marks.{length-view}
 use Rattle.model.proofs.Laws.{Stops}

@@ -16,30 +16,11 @@ use Rattle.model.specs.Stored.{Event, eventIn, paddedZero, areaSize, answerRoom
 use Rattle.model.specs.Events.{event}
 use Rattle.model.specs.Sound.{sound, soundWith, secretsOk, pendingFits}
 use Rattle.model.specs.Session.{Turn, refusedBy, replied, turnOf, playOf}
-use Rattle.theorem_secrecy.specs.View.{
-  Mark,
-  seens,
-  marksCommand,
-  marksData,
-  marksIn,
-  walked,
-  stateIn,
-  Hiding,
-  view,
-  viewRecord,
-  playable,
-  viewPlay,
-}
+use Rattle.theorem_secrecy.specs.View.{Mark, seens, marksCommand, marksData, marksIn, walked, stateIn, Hiding}
+use Rattle.theorem_secrecy.specs.View.{view, viewRecord, playable, viewPlay}
 use Rattle.theorem_secrecy.specs.Veil.{veil, veilSecrets, veilLoading, veilTurn}
-use Rattle.theorem_secrecy.proofs.Marks.{
-  length-view,
-  take-seen,
-  drop-seen,
-  take-view,
-  view-within,
-  drop-view,
-  view-zero,
-}
+use Rattle.theorem_secrecy.proofs.Marks.{length-view, take-seen, drop-seen, take-view, view-within, drop-view}
+use Rattle.theorem_secrecy.proofs.Marks.{view-zero}
 use Rattle.theorem_secrecy.proofs.Heads.{byte-kept}
 use Rattle.theorem_secrecy.proofs.Events.{veil-event, storing, Walks, walks, played, hides-event}
 

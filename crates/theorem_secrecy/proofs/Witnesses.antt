@@ -10,36 +10,10 @@ use Rattle.model.specs.declared.Life.{Life}
 use Rattle.model.specs.Stored.{Event, recordOf, areaSize}
 use Rattle.model.specs.Events.{withLife}
 use Rattle.model.proofs.Computed.{computed}
-use Rattle.model.proofs.Scenes.{
-  Bytes,
-  blankCard,
-  event,
-  install,
-  select,
-  command,
-  serial,
-  startup,
-  counter,
-  key,
-  table,
-  df,
-  linear,
-  begun,
-  asked,
-  loaded,
-  turns,
-  endOf,
-}
-use Rattle.theorem_secrecy.specs.View.{
-  every,
-  secretMarks,
-  marksWalk,
-  marksCommand,
-  marksIn,
-  view,
-  viewRecord,
-  viewsFrom,
-}
+use Rattle.model.proofs.Scenes.{Bytes, blankCard, event, install, select, command, serial, startup, counter, key}
+use Rattle.model.proofs.Scenes.{table, df, linear, begun, asked, loaded, turns, endOf}
+use Rattle.theorem_secrecy.specs.View.{every, secretMarks, marksWalk, marksCommand, marksIn, view, viewRecord}
+use Rattle.theorem_secrecy.specs.View.{viewsFrom}
 use Rattle.theorem_secrecy.specs.Alike.{secretOf}
 
 -- a record that comes after a session of a fresh card of capacity 10, of which the card's life cycle is then made

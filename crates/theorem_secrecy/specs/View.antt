@@ -12,17 +12,8 @@ use Rattle.model.specs.declared.Open.the-variants.{Shut, Table, Record}
 use Rattle.model.specs.declared.Header.{Header}
 use Rattle.model.specs.declared.Header.the-variants.{Torn, Whole}
 use Rattle.model.specs.declared.Card.{Card}
-use Rattle.model.specs.Stored.{
-  chipSize,
-  chipOf,
-  freshCard,
-  Event,
-  eventIn,
-  paddedZero,
-  recordSize,
-  areaSize,
-  answerRoom,
-}
+use Rattle.model.specs.Stored.{chipSize, chipOf, freshCard, Event, eventIn, paddedZero, recordSize, areaSize}
+use Rattle.model.specs.Stored.{answerRoom}
 use Rattle.model.specs.Rows.{rowOf}
 use Rattle.model.specs.Header.{headerOf}
 use Rattle.model.specs.Loads.{State}

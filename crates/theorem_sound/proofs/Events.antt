@@ -16,51 +16,16 @@ use Rattle.model.specs.Loads.{State}
 use Rattle.model.specs.Rules.{Result, went, asked, failed}
 use Rattle.model.specs.Command.{command}
 use Rattle.model.specs.Sound.{nameOk, selectedOk, sound}
-use Rattle.model.specs.Events.{
-  Reply,
-  Names,
-  withLife,
-  withGp,
-  withLoading,
-  locked,
-  absent,
-  isName,
-  namesIn,
-  installForm,
-  selectableForm,
-  installedAs,
-  installing,
-  makingSelectable,
-  install,
-  select,
-  lock,
-  unlock,
-  deselect,
-  foreign,
-  errs,
-  commanded,
-  storeData,
-  stuck,
-  personalizing,
-  otherwise,
-  event,
-}
+use Rattle.model.specs.Events.{Reply, Names, withLife, withGp, withLoading, locked, absent, isName, namesIn}
+use Rattle.model.specs.Events.{installForm, selectableForm, installedAs, installing, makingSelectable, install}
+use Rattle.model.specs.Events.{select, lock, unlock, deselect, foreign, errs, commanded, storeData, stuck}
+use Rattle.model.specs.Events.{personalizing, otherwise, event}
 use Rattle.theorem_sound.specs.Keeps.{Kept, Keeps, Good}
 use Rattle.lists.specs.Truth.{and-l, and-r, and-i, or-r}
 use Rattle.theorem_sound.proofs.Parts.{sound-parts, sound-of-parts}
 use Rattle.theorem_sound.proofs.Keeps.{command-keeps}
-use Rattle.theorem_sound.proofs.Lives.{
-  LifeOk,
-  LifeOf,
-  life-of,
-  relived,
-  made-selectable,
-  installed,
-  chosen,
-  unchosen,
-  locks,
-  unlocks,
-}
+use Rattle.theorem_sound.proofs.Lives.{LifeOk, LifeOf, life-of, relived, made-selectable, installed, chosen}
+use Rattle.theorem_sound.proofs.Lives.{unchosen, locks, unlocks}
 
 -- what a reply holds
 abbrev pub GoodReply : Reply → Type 0

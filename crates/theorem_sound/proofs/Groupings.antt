@@ -14,20 +14,8 @@ use Rattle.model.specs.declared.Open.the-variants.{Shut, Table, Record}
 use Rattle.model.specs.declared.Head.{Head}
 use Rattle.model.specs.Rows.{rowAt, secretRoom}
 use Rattle.model.specs.Loads.{State, fileList, changed, withTaken, withOpen}
-use Rattle.model.specs.Rules.{
-  Result,
-  went,
-  Rule,
-  _>>_,
-  does,
-  startupOk,
-  startup,
-  kept,
-  openedAs,
-  spanned,
-  whole,
-  ruleH,
-}
+use Rattle.model.specs.Rules.{Result, went, Rule, _>>_, does, startupOk, startup, kept, openedAs, spanned, whole}
+use Rattle.model.specs.Rules.{ruleH}
 use Rattle.model.specs.Command.{isShut}
 use Rattle.theorem_sound.specs.Keeps.{Ends, Ruled}
 use Rattle.theorem_sound.proofs.Ends.{then-ends}
@@ -35,14 +23,8 @@ use Rattle.theorem_sound.proofs.Inside.{InsideOf, Steady}
 use Rattle.theorem_sound.proofs.Changes.{row-taken, secret-kept, table-begun, record-begun}
 use Rattle.theorem_sound.proofs.Feeding.{InsideWith}
 use Rattle.theorem_sound.proofs.Feeds.{Going, Walks, tableSome, fed-walks, shut-some, taken-length}
-use Rattle.theorem_sound.proofs.RowFacts.{
-  by-span,
-  secret-most,
-  room-most,
-  due-untaken,
-  table-length,
-  record-room,
-}
+use Rattle.theorem_sound.proofs.RowFacts.{by-span, secret-most, room-most, due-untaken, table-length}
+use Rattle.theorem_sound.proofs.RowFacts.{record-room}
 use Rattle.model.proofs.Laws.{length-most}
 
 -- a state with nothing open

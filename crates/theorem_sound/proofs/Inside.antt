@@ -17,18 +17,8 @@ use Rattle.model.specs.Table.{tableLimit, tablePasses}
 use Rattle.model.specs.Loads.{State, fileList}
 use Rattle.model.specs.Rules.{Result, tagSpot}
 use Rattle.model.specs.Command.{isShut}
-use Rattle.model.specs.Sound.{
-  gpOk,
-  nameOk,
-  selectedOk,
-  tableOpen,
-  secretsOk,
-  tableFits,
-  recordFits,
-  pendingFits,
-  someMissing,
-  openOk,
-}
+use Rattle.model.specs.Sound.{gpOk, nameOk, selectedOk, tableOpen, secretsOk, tableFits, recordFits, pendingFits}
+use Rattle.model.specs.Sound.{someMissing, openOk}
 use Rattle.theorem_sound.specs.Keeps.{Kept, Ends}
 use Rattle.lists.specs.Truth.{and-r, and-i, or-l, or-r, or-left}
 use Rattle.theorem_sound.proofs.Parts.{sound-parts, sound-of-parts}

@@ -22,16 +22,8 @@ use Rattle.theorem_sound.proofs.RowFacts.{room-most}
 use Rattle.model.proofs.Laws.{length-most}
 use Rattle.theorem_sound.proofs.Feeding.{Misses, Fed, tableBytes-fed}
 use Rattle.theorem_sound.proofs.Feeds.{Going, Walks, some-table, fed-walks}
-use Rattle.theorem_sound.proofs.Groupings.{
-  Closed,
-  opening,
-  spans-open,
-  shut-is,
-  steady-closed,
-  whole-walks,
-  spanned-walks,
-  ruleH-walks,
-}
+use Rattle.theorem_sound.proofs.Groupings.{Closed, opening, spans-open, shut-is, steady-closed, whole-walks}
+use Rattle.theorem_sound.proofs.Groupings.{spanned-walks, ruleH-walks}
 use Rattle.theorem_sound.proofs.Walks.{grouping-walks, walk-steady, theEnd-steady, command-steady}
 
 -- going on is keeping

@@ -12,21 +12,8 @@ use Rattle.model.specs.declared.Descriptor.{Descriptor}
 use Rattle.model.specs.declared.Row.{Row}
 use Rattle.model.specs.declared.Spot.the-variants.{At}
 use Rattle.model.specs.declared.Verdict.the-variants.{Passes}
-use Rattle.model.specs.Rows.{
-  bit,
-  rowTable,
-  rowAt,
-  rowFrom,
-  rowOf,
-  inRow,
-  taken,
-  noneFrom,
-  readyFor,
-  due,
-  tableRoom,
-  descriptorSize,
-  secretRoom,
-}
+use Rattle.model.specs.Rows.{bit, rowTable, rowAt, rowFrom, rowOf, inRow, taken, noneFrom, readyFor, due, tableRoom}
+use Rattle.model.specs.Rows.{descriptorSize, secretRoom}
 use Rattle.model.specs.Rules.{tagSpot, roomOf, lengthOk}
 use Rattle.lists.specs.Truth.{and-l, and-r}
 use Rattle.theorem_sound.proofs.Taking.{by-row}

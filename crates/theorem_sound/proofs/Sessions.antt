@@ -11,36 +11,14 @@ use Rattle.lists.specs.Choice.{by-cond}
 use Rattle.model.specs.declared.Chip.{Chip}
 use Rattle.model.specs.declared.Card.{Card}
 use Rattle.model.specs.declared.Made.{Made}
-use Rattle.model.specs.Stored.{
-  Event,
-  areaSize,
-  answerRoom,
-  recordSize,
-  chipSize,
-  chipOf,
-  chipForm,
-  freshCard,
-  isKind,
-  eventIn,
-  paddedZero,
-}
+use Rattle.model.specs.Stored.{Event, areaSize, answerRoom, recordSize, chipSize, chipOf, chipForm, freshCard, isKind}
+use Rattle.model.specs.Stored.{eventIn, paddedZero}
 use Rattle.model.specs.Rows.{taken}
 use Rattle.model.specs.Table.{tableLimit, tablePasses}
 use Rattle.model.specs.Sound.{secretsOk, sound, soundWith}
 use Rattle.model.specs.Events.{event}
-use Rattle.model.specs.Session.{
-  Turn,
-  Run,
-  Session,
-  freshOf,
-  turnOf,
-  playOf,
-  after,
-  runFrom,
-  recordsIn,
-  eventsIn,
-  runOf,
-}
+use Rattle.model.specs.Session.{Turn, Run, Session, freshOf, turnOf, playOf, after, runFrom, recordsIn, eventsIn}
+use Rattle.model.specs.Session.{runOf}
 use Rattle.theorem_sound.specs.Keeps.{Good}
 use Rattle.theorem_sound.proofs.Events.{event-good}
 

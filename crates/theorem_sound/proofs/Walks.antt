@@ -13,32 +13,9 @@ use Rattle.model.specs.declared.Verdict.the-variants.{Passes, Refuses}
 use Rattle.model.specs.Rows.{rowAt, rowOf, due, mandatoryMissing}
 use Rattle.model.specs.Header.{headerOf}
 use Rattle.model.specs.Loads.{State, fileList, changed, withInternal, withTaken}
-use Rattle.model.specs.Rules.{
-  Result,
-  Rule,
-  thence,
-  _>>_,
-  judged,
-  unless,
-  isQuery,
-  aloneAtStart,
-  bit1,
-  bit8,
-  challenged,
-  query,
-  ruleA,
-  ruleB,
-  ruleC,
-  dueRow,
-  ruleD,
-  roomOf,
-  ruleE,
-  lengthOk,
-  ruleF,
-  ruleG,
-  fed,
-  grouping,
-}
+use Rattle.model.specs.Rules.{Result, Rule, thence, _>>_, judged, unless, isQuery, aloneAtStart, bit1, bit8}
+use Rattle.model.specs.Rules.{challenged, query, ruleA, ruleB, ruleC, dueRow, ruleD, roomOf, ruleE, lengthOk, ruleF}
+use Rattle.model.specs.Rules.{ruleG, fed, grouping}
 use Rattle.model.specs.Command.{isShut, walk, ready, theEnd, command}
 use Rattle.theorem_sound.specs.Keeps.{Ends}
 use Rattle.lists.specs.Truth.{and-r}

@@ -17,19 +17,8 @@ use Rattle.model.specs.declared.Spot.{Spot}
 use Rattle.model.specs.declared.Verdict.the-variants.{Passes, Refuses}
 use Rattle.model.specs.declared.Spot.the-variants.{Nowhere, At}
 use Rattle.model.specs.Stored.{noFile, areaSize}
-use Rattle.model.specs.Table.{
-  binary,
-  simulated,
-  sizeOf,
-  total,
-  admitOf,
-  passed,
-  tablePasses,
-  spotIn,
-  spotFrom,
-  spotOf,
-  rulesOk,
-}
+use Rattle.model.specs.Table.{binary, simulated, sizeOf, total, admitOf, passed, tablePasses, spotIn, spotFrom}
+use Rattle.model.specs.Table.{spotOf, rulesOk}
 use Rattle.model.specs.Loads.{fileList, withFile}
 use Rattle.lists.specs.Truth.{and-l, and-r, and-i}
 

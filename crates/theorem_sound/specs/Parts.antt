@@ -6,17 +6,8 @@ use lib.Dec.{eqb}
 use Rattle.model.specs.declared.Life.{Life}
 use Rattle.model.specs.declared.Loading.{Loading}
 use Rattle.model.specs.Table.{tableLimit, tablePasses}
-use Rattle.model.specs.Sound.{
-  gpOk,
-  internalOk,
-  nameOk,
-  selectedOk,
-  tablePlaced,
-  secretsOk,
-  openOk,
-  pendingFits,
-  someMissing,
-}
+use Rattle.model.specs.Sound.{gpOk, internalOk, nameOk, selectedOk, tablePlaced, secretsOk, openOk, pendingFits}
+use Rattle.model.specs.Sound.{someMissing}
 
 pub record SoundParts (f : Life) (l : Loading) : Type 0 where
   pub gp : gpOk (f .gp) ≡ true

@@ -9,20 +9,8 @@ use Rattle.model.specs.declared.Head.{Head}
 use Rattle.model.specs.declared.Verdict.the-variants.{Passes, Refuses}
 use Rattle.model.specs.Rows.{rowAt, due}
 use Rattle.model.specs.Loads.{State, fileList, withInternal, changed}
-use Rattle.model.specs.Rules.{
-  Result,
-  failed,
-  lengthOk,
-  roomOf,
-  dueRow,
-  ruleD,
-  ruleE,
-  ruleF,
-  ruleG,
-  ruleH,
-  spanned,
-  whole,
-}
+use Rattle.model.specs.Rules.{Result, failed, lengthOk, roomOf, dueRow, ruleD, ruleE, ruleF, ruleG, ruleH, spanned}
+use Rattle.model.specs.Rules.{whole}
 use borrow.Author.Tests.{eq-eqb, ne-eqb, ltb-false}
 use Rattle.model.specs.Rules.{thence, isQuery, query, ruleB, ruleC}
 use native.Mathlib.Omega.{arith}

@@ -13,29 +13,8 @@ use Rattle.model.specs.declared.Open.the-variants.{Shut, Table, Record}
 use Rattle.model.specs.Rows.{rowAt}
 use Rattle.model.specs.Header.{headerOf}
 use Rattle.model.specs.Loads.{State, withOpen, changed}
-use Rattle.model.specs.Rules.{
-  Result,
-  went,
-  asked,
-  failed,
-  Rule,
-  thence,
-  kept,
-  tableBytes,
-  feeding,
-  fed,
-  openedAs,
-  spanned,
-  whole,
-  ruleB,
-  ruleC,
-  ruleD,
-  ruleE,
-  ruleF,
-  ruleG,
-  ruleH,
-  grouping,
-}
+use Rattle.model.specs.Rules.{Result, went, asked, failed, Rule, thence, kept, tableBytes, feeding, fed, openedAs}
+use Rattle.model.specs.Rules.{spanned, whole, ruleB, ruleC, ruleD, ruleE, ruleF, ruleG, ruleH, grouping}
 use Rattle.theorem_sound.specs.Keeps.{Ends}
 use Rattle.walk_course.proofs.Chains.{a-whole, a-torn, head-sized}
 

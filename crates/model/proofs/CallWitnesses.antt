@@ -8,7 +8,7 @@ use Rattle.lists.specs.Bytes.{same, zeros, part}
 use Rattle.model.specs.declared.Card.{Card}
 use Rattle.model.specs.declared.Open.the-variants.{Shut, Table}
 use Rattle.model.specs.Stored.{recordOf}
-use Rattle.model.specs.Session.{playOf, runOf, shownOf}
+use Rattle.model.specs.Session.{playOf, runOf, shownOf, partShown}
 use Rattle.model.proofs.Scenes.{Bytes, event, name, df, ef, linear}
 use Rattle.model.proofs.Tables.{every, rising, but, cardNumbers, tabled}
 use Rattle.model.proofs.Cards.{cardOf, lifeIn, runningOf, loadingOf, carded}
@@ -95,8 +95,11 @@ sessions =
     (0x0000 ∷ 0x0000 ∷ 0x9000 ∷ 0x0000 ∷ []) lockedCard
     ∷ []
 
-abbrev pub shows : Card → Bytes → ℕ → ℕ → ℕ → Bytes → Bool
-shows c a sfi nn n b = let s = shownOf c a sfi nn in eqb (s .number) n && same (s .bytes) b
+-- number, place and length, and the bytes there
+abbrev pub shows : Card → Bytes → ℕ → ℕ → ℕ → ℕ → Bytes → Bool
+shows c a sfi nn n at b =
+    let s = shownOf c a sfi nn in
+    eqb (s .number) n && eqb (s .start) at && eqb (s .len) (length b) && same (partShown a s) b
 
 -- while '3100' is open, row 5 not taken
 abbrev pub opened : Card
@@ -105,16 +108,16 @@ opened = cardOf (lifeIn 0x07 true) (loadingOf (runningOf 0x5A 0x007 0 (Table 0 1
 -- "shown record 1, 6, 8"
 unfoldable pub showing : List Bool
 showing =
-    shows bad (0 ∷ area) 0x00 0 1 [] ∷ shows good (drop 1 area) 0x08 1 1 []
-    ∷ shows bad area 0x00 0 6 [] ∷ shows bad area 0x08 1 6 []
+    shows bad (0 ∷ area) 0x00 0 1 0 [] ∷ shows good (drop 1 area) 0x08 1 1 0 []
+    ∷ shows bad area 0x00 0 6 0 [] ∷ shows bad area 0x08 1 6 0 []
     -- "SFI 0, no such SFI or record, or no stored bytes"
-    ∷ shows good area 0x00 0 8 [] ∷ shows good area 0x00 1 8 [] ∷ shows good area 0x1F 1 8 []
-    ∷ shows good area 0x0A 1 8 []
-    ∷ shows good area 0x08 0 8 [] ∷ shows good area 0x08 4 8 [] ∷ shows good area 0x07 1 8 []
-    ∷ shows good area 0x19 2 8 []
-    ∷ shows good area 0x19 1 0 (rising 0 11) ∷ shows good area 0x08 1 0 (rising 11 29)
-    ∷ shows good area 0x08 3 0 (rising 69 29) ∷ shows good area 0x07 0 0 (rising 98 300)
-    ∷ shows opened area 0x08 2 0 (rising 40 29)
+    ∷ shows good area 0x00 0 8 0 [] ∷ shows good area 0x00 1 8 0 [] ∷ shows good area 0x1F 1 8 0 []
+    ∷ shows good area 0x0A 1 8 0 []
+    ∷ shows good area 0x08 0 8 0 [] ∷ shows good area 0x08 4 8 0 [] ∷ shows good area 0x07 1 8 0 []
+    ∷ shows good area 0x19 2 8 0 []
+    ∷ shows good area 0x19 1 0 0 (rising 0 11) ∷ shows good area 0x08 1 0 11 (rising 11 29)
+    ∷ shows good area 0x08 3 0 69 (rising 69 29) ∷ shows good area 0x07 0 0 98 (rising 98 300)
+    ∷ shows opened area 0x08 2 0 40 (rising 40 29)
     ∷ []
 
 pub plays-right : T (every plays)

@@ -8,20 +8,8 @@ use lib.ListN.{length, getD, take, drop, replicate}
 use Rattle.lists.specs.Bytes.{same, zeros}
 use Rattle.model.specs.Rules.{Result, asked, failed}
 use Rattle.model.specs.Order.{challengedState, finished, complete, cutOf, writeOf}
-use Rattle.model.proofs.Scenes.{
-  Bytes,
-  chip,
-  challenge,
-  traceability,
-  status,
-  serial,
-  startup,
-  counter,
-  key,
-  table,
-  df,
-  linear,
-}
+use Rattle.model.proofs.Scenes.{Bytes, chip, challenge, traceability, status, serial, startup, counter, key}
+use Rattle.model.proofs.Scenes.{table, df, linear}
 use Rattle.model.proofs.Examples.{lengthsOf, brimful}
 use Rattle.model.proofs.Tables.{every, rising, but, tabled}
 

@@ -12,39 +12,14 @@ use Rattle.model.specs.declared.Card.{Card}
 use Rattle.model.specs.declared.Loading.{Loading}
 use Rattle.model.specs.declared.Verdict.the-variants.{Passes, Refuses}
 use Rattle.model.specs.Loads.{State}
-use Rattle.model.specs.Rules.{
-  Result,
-  went,
-  asked,
-  failed,
-  judged,
-  unless,
-  does,
-  ruleB,
-  ruleC,
-  kept,
-  described,
-  tableBytes,
-  inTable,
-}
+use Rattle.model.specs.Rules.{Result, went, asked, failed, judged, unless, does, ruleB, ruleC, kept, described}
+use Rattle.model.specs.Rules.{tableBytes, inTable}
 use Rattle.model.specs.Stages.{fromG}
 use Rattle.model.specs.Command.{walk, theEnd}
 use Rattle.model.proofs.Scenes.{Bytes, event, df, serial, startup, counter, key}
 use Rattle.model.proofs.Tables.{every, rising, verdictNumber, tabled}
-use Rattle.model.proofs.Cards.{
-  Case,
-  on,
-  replies,
-  secretsMade,
-  blankFile,
-  cardOf,
-  lifeIn,
-  runningOf,
-  loadingOf,
-  shutIn,
-  smallArea,
-  carded,
-}
+use Rattle.model.proofs.Cards.{Case, on, replies, secretsMade, blankFile, cardOf, lifeIn, runningOf, loadingOf}
+use Rattle.model.proofs.Cards.{shutIn, smallArea, carded}
 
 -- a card in '5A' with rows and these facts and secrets
 abbrev pub keeping : ℕ → Bytes → Bytes → ℕ → List Secret → Card
