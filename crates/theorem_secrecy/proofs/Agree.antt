@@ -75,6 +75,23 @@ hidden-view z ms r q e =
     on seen x y p = p refl
     on (secret k j) x y p = by (z k j) x y p
 
+-- and lists that look alike differ only so
+pub view-hidden : (z : Hiding) (ms : List Mark) (r q : List ℕ) → view z ms r ≡ view z ms q → ButForSecrets z ms r q
+view-hidden z ms r q e = record {
+  size = sym (length-view z ms r) ∙ ap (λ (l : List ℕ). length l) e ∙ length-view z ms q;
+  bytes = λ i s.
+      sym (on (markAt ms i) (byteAt r i) s) ∙ sym (byte-view z ms r i) ∙ ap (λ (l : List ℕ). byteAt l i) e
+      ∙ byte-view z ms q i ∙ on (markAt ms i) (byteAt q i) s;
+}
+  where
+    by : (hides : Bool) (x : ℕ) → not hides ≡ true → cond hides 0 x ≡ x
+    by true x s = absurd (true≢false (sym s))
+    by false x s = refl
+
+    on : (m : Mark) (x : ℕ) → shows z m ≡ true → shownAs z m x ≡ x
+    on seen x s = refl
+    on (secret k j) x s = by (z k j) x s
+
 pub but-view : (ms : List Mark) (r q : List ℕ) → But ms r q → view every ms r ≡ view every ms q
 but-view ms r q e =
     hidden-view every ms r q (record { size = e .size; bytes = λ i m. e .bytes i (on (markAt ms i) m) })

@@ -13,14 +13,15 @@ use Rattle.model.specs.declared.Chip.{Chip}
 use Rattle.model.specs.declared.Card.{Card}
 use Rattle.model.specs.Stored.{freshCard, recordSize, areaSize}
 use Rattle.model.specs.Sound.{sound}
-use Rattle.model.specs.Session.{Turn, turnOf, playOf, recordsIn, runFrom, Session, noRun, eventsIn, runOf}
-use Rattle.theorem_secrecy.specs.View.{Hiding, every, marksIn, viewRecord, viewsFrom, viewPlays, joined, viewOf}
-use Rattle.theorem_secrecy.specs.Veil.{veil, veilTurn, veilSession}
-use Rattle.theorem_secrecy.specs.Alike.{AlikeTurns, AlikeRuns, playAt, start}
+use Rattle.model.specs.Session.{turnOf, recordsIn, runFrom, Session, noRun, eventsIn, runOf}
+use Rattle.theorem_secrecy.specs.View.{Hiding, every, marksIn, viewRecord, inSession, oneByOne, viewsFrom}
+use Rattle.theorem_secrecy.specs.View.{joined, viewOf}
+use Rattle.theorem_secrecy.specs.Veil.{veil, veilSession}
+use Rattle.theorem_secrecy.specs.Alike.{AlikeTurns, AlikeCalls, turnAt, start}
 use Rattle.theorem_secrecy.proofs.Marks.{length-view}
 use Rattle.theorem_secrecy.proofs.Turns.{hides-play, veil-sound}
-use Rattle.theorem_secrecy.proofs.Cards.{alike-turns, alike-runs}
-use Rattle.theorem_secrecy.proofs.Sessions.{hides-run}
+use Rattle.theorem_secrecy.proofs.Cards.{alike-turns, alike-calls}
+use Rattle.theorem_secrecy.proofs.Sessions.{same-turns, hides-run}
 
 -- tests of a session, in its order: it runs where all pass
 runs-where : (area sound whole room : Bool) (x1 x6 x3 x11 x0 : Session) → x1 .number ≡ 1 → x6 .number ≡ 6
@@ -55,32 +56,32 @@ other-records n b e = rw (length-drop recordSize b) (omega arith)
 module _ (z : Hiding) where
   -- records end to end, as they may be seen, are that many bytes and those records
   length-joined : (n : ℕ) (c : Card) (a b : List ℕ) → length b ≡ n * recordSize
-      → length (joined (viewsFrom z c a (recordsIn n b))) ≡ n * recordSize
+      → length (joined (viewsFrom z inSession c a (recordsIn n b))) ≡ n * recordSize
   unfolding joined viewsFrom recordsIn
   length-joined zero c a b e = refl
   length-joined (suc n) c a b e =
       let r = take recordSize b in
       let t = turnOf c a r in
-      let rest = joined (viewsFrom z (t .card) (t .area) (recordsIn n (drop recordSize b))) in
+      let rest = joined (viewsFrom z inSession (t .card) (t .area) (recordsIn n (drop recordSize b))) in
       let later : length rest ≡ n * recordSize =
       length-joined n (t .card) (t .area) (drop recordSize b) (other-records n b e) in
       let size : length (viewRecord z c a r) ≡ recordSize = length-view z (marksIn c a r) r ∙ first-record n b e in
       rw (length-append (viewRecord z c a r) rest, size, later) (omega arith)
 
   records-joined : (n : ℕ) (c : Card) (a b : List ℕ) → length b ≡ n * recordSize
-      → recordsIn n (joined (viewsFrom z c a (recordsIn n b))) ≡ viewsFrom z c a (recordsIn n b)
+      → recordsIn n (joined (viewsFrom z inSession c a (recordsIn n b))) ≡ viewsFrom z inSession c a (recordsIn n b)
   unfolding joined viewsFrom recordsIn
   records-joined zero c a b e = refl
   records-joined (suc n) c a b e =
       let r = take recordSize b in
       let t = turnOf c a r in
-      let rest = joined (viewsFrom z (t .card) (t .area) (recordsIn n (drop recordSize b))) in
+      let rest = joined (viewsFrom z inSession (t .card) (t .area) (recordsIn n (drop recordSize b))) in
       let size : length (viewRecord z c a r) ≡ recordSize = length-view z (marksIn c a r) r ∙ first-record n b e in
       ap₂ {C = List (List ℕ)} (λ x l. x ∷ l) (take-at (viewRecord z c a r) rest recordSize size)
       (ap (recordsIn n) (drop-at (viewRecord z c a r) rest recordSize size)
       ∙ records-joined n (t .card) (t .area) (drop recordSize b) (other-records n b e))
 
-  veil-session-if : (b : Bool) (x y : Session) → cond b (veilSession z x) (veilSession z y)
+  pub veil-session-if : (b : Bool) (x y : Session) → cond b (veilSession z x) (veilSession z y)
       ≡ veilSession z (cond b x y)
   veil-session-if true x y = refl
   veil-session-if false x y = refl
@@ -89,12 +90,12 @@ module _ (z : Hiding) where
   ran c a rs = record { number = 0; run = runFrom (start c a) rs }
 
   session-hidden : (c : Card) (a : List ℕ) (room : ℕ) (b : List ℕ) → eqb (runOf c a room b .number) 0 ≡ true
-      → runOf (veil z c) a room (joined (viewsFrom z c a (recordsIn (eventsIn b) b)))
+      → runOf (veil z c) a room (joined (viewsFrom z inSession c a (recordsIn (eventsIn b) b)))
       ≡ veilSession z (runOf c a room b)
   unfolding runOf
   session-hidden c a room b e =
       let records = recordsIn (eventsIn b) b in
-      let bytes = joined (viewsFrom z c a records) in
+      let bytes = joined (viewsFrom z inSession c a records) in
       let whole = eqb (length b % recordSize) 0 in
       let size = whole-records b (runs-where (eqb (length a) areaSize) (sound c) whole (ltb room (eventsIn b))
       (noRun 1 c a) (noRun 6 c a) (noRun 3 c a) (noRun 11 c a) (ran c a records) refl refl refl refl e) in
@@ -124,49 +125,26 @@ module _ (z : Hiding) where
       (eqb (runOf c a room b .number) 0)
       (session-hidden c a room b) (session-seen c a room b)
 
-  -- events played one by one, their numbers too
-  hides-plays : (c : Card) (a : List ℕ) (room : ℕ) (rs : List (List ℕ)) (k : ℕ)
-      → playAt (veil z c) a room (viewPlays z c a room rs) k ≡ veilTurn z (playAt c a room rs k)
-  unfolding playAt viewPlays
-  hides-plays c a room [] k = refl
-  hides-plays c a room (r ∷ rs) zero = hides-play z c a room r
-  hides-plays c a room (r ∷ rs) (suc k) =
-      let t = playOf c a room r in
-      ap (λ (u : Turn). playAt (u .card) (u .area) room (viewPlays z (t .card) (t .area) room rs) k)
-      (hides-play z c a room r) ∙ hides-plays (t .card) (t .area) room rs k
-
-  pub alike-plays : (c d : Card) (a : List ℕ) (room : ℕ) (x y : List (List ℕ)) → veil z c ≡ veil z d
-      → viewPlays z c a room x ≡ viewPlays z d a room y
-      → (k : ℕ) → AlikeTurns z (playAt c a room x k) (playAt d a room y k)
-  alike-plays c d a room x y cards views k =
-      alike-turns z (playAt c a room x k) (playAt d a room y k)
-      (sym (hides-plays c a room x k) ∙ ap₂ (λ (s : Card) (l : List (List ℕ)). playAt s a room l k) cards views ∙
-      hides-plays d a room y k)
-
   -- a session's bytes
   pub alike-bytes : (c d : Card) (a : List ℕ) (room : ℕ) (x y : List ℕ) → veil z c ≡ veil z d
-      → viewOf z c a room x ≡ viewOf z d a room y
-      → (runOf c a room x .number ≡ runOf d a room y .number)
-      × AlikeRuns z (runOf c a room x .run) (runOf d a room y .run)
-  alike-bytes c d a room x y cards views = (
-    ap (λ (s : Session). s .number) same,
-    alike-runs z (runOf c a room x .run) (runOf d a room y .run)
-        (ap (λ (s : Session). s .run) same),
-  )
-    where
-      same : veilSession z (runOf c a room x) ≡ veilSession z (runOf d a room y)
-      same = sym (hides-session c a room x) ∙ ap₂
-          (λ (s : Card) (l : List ℕ). runOf s a room l) cards views ∙ hides-session d a room y
+      → viewOf z c a room x ≡ viewOf z d a room y → AlikeCalls z (runOf c a room x) (runOf d a room y)
+  alike-bytes c d a room x y cards views =
+      alike-calls z (runOf c a room x) (runOf d a room y)
+      (sym (hides-session c a room x) ∙ ap₂ (λ (s : Card) (l : List ℕ). runOf s a room l) cards views ∙ hides-session
+      d a room y)
 
 -- THE THEOREM, of events that are played one by one
 pub secret-plays : (chip : Chip) (a : List ℕ) (room : ℕ) (x y : List (List ℕ))
-    → viewPlays every (freshCard chip) a room x ≡ viewPlays every (freshCard chip) a room y
-    → (k : ℕ) → AlikeTurns every (playAt (freshCard chip) a room x k) (playAt (freshCard chip) a room y k)
-secret-plays chip a room x y views = alike-plays every (freshCard chip) (freshCard chip) a room x y refl views
+    → viewsFrom every (oneByOne room) (freshCard chip) a x ≡ viewsFrom every (oneByOne room) (freshCard chip) a y
+    → (k : ℕ) → AlikeTurns every (turnAt (oneByOne room) (freshCard chip) a x k)
+    (turnAt (oneByOne room) (freshCard chip) a y k)
+secret-plays chip a room x y views k =
+    let c = freshCard chip in
+    alike-turns every (turnAt (oneByOne room) c a x k) (turnAt (oneByOne room) c a y k)
+    (same-turns every (oneByOne room) (hides-play every room) c c a x y refl views k)
 
 -- THE THEOREM, of a session's bytes
 pub secret-session : (chip : Chip) (a : List ℕ) (room : ℕ) (x y : List ℕ)
     → viewOf every (freshCard chip) a room x ≡ viewOf every (freshCard chip) a room y
-    → (runOf (freshCard chip) a room x .number ≡ runOf (freshCard chip) a room y .number)
-    × AlikeRuns every (runOf (freshCard chip) a room x .run) (runOf (freshCard chip) a room y .run)
+    → AlikeCalls every (runOf (freshCard chip) a room x) (runOf (freshCard chip) a room y)
 secret-session chip a room x y views = alike-bytes every (freshCard chip) (freshCard chip) a room x y refl views

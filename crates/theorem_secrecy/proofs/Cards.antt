@@ -8,10 +8,10 @@ use Rattle.lists.specs.Bytes.{byteAt}
 use Rattle.model.specs.declared.Secret.{Secret}
 use Rattle.model.specs.declared.Card.{Card}
 use Rattle.model.specs.Stored.{noSecret}
-use Rattle.model.specs.Session.{Turn, Run}
+use Rattle.model.specs.Session.{Turn, Run, Session}
 use Rattle.theorem_secrecy.specs.View.{Hiding}
-use Rattle.theorem_secrecy.specs.Veil.{veilSecret, veilSecrets, veil, veilTurn, veilRun}
-use Rattle.theorem_secrecy.specs.Alike.{secretOf, AlikeCards, AlikeTurns, AlikeRuns}
+use Rattle.theorem_secrecy.specs.Veil.{veilSecret, veilSecrets, veil, veilTurn, veilRun, veilSession}
+use Rattle.theorem_secrecy.specs.Alike.{secretOf, AlikeCards, AlikeTurns, AlikeRuns, AlikeCalls}
 use Rattle.theorem_secrecy.proofs.Marks.{length-blotted, blotted-zeros, byte-blotted}
 
 module _ (z : Hiding) where
@@ -75,4 +75,10 @@ module _ (z : Hiding) where
     words = ap (λ (x : Run). x .words) e;
     area = ap (λ (x : Run). x .area) e;
     card = alike-cards (w .card) (u .card) (ap (λ (x : Run). x .card) e);
+  }
+
+  pub alike-calls : (s t : Session) → veilSession z s ≡ veilSession z t → AlikeCalls z s t
+  alike-calls s t e = record {
+    number = ap (λ (x : Session). x .number) e;
+    run = alike-runs (s .run) (t .run) (ap (λ (x : Session). x .run) e);
   }

@@ -21,10 +21,12 @@ use Rattle.model.specs.Rows.{rowOf}
 use Rattle.model.specs.Header.{headerOf}
 use Rattle.model.specs.Loads.{State}
 use Rattle.model.specs.Rules.{Result, went, asked, failed, fed, grouping}
-use Rattle.model.specs.Session.{Turn, turnOf}
+use Rattle.model.specs.Sound.{sound}
+use Rattle.model.specs.Session.{Turn}
 use Rattle.theorem_secrecy.specs.View.{Mark, seen, seens, secretMarks, isSecret, valueMarks, groupingMarks}
 use Rattle.theorem_secrecy.specs.View.{missingIn, marksBy, marksWalk, marksCommand, marksData, marksIn, walked}
-use Rattle.theorem_secrecy.specs.View.{stateIn, Hiding, every, view, viewRecord, viewsFrom}
+use Rattle.theorem_secrecy.specs.View.{stateIn, Hiding, every, view, Way, inSession, playable, marksPlayed}
+use Rattle.theorem_secrecy.specs.View.{oneByOne, viewsFrom}
 use Rattle.theorem_secrecy.specs.Veil.{veil, veilState, veilTurn}
 use Rattle.theorem_secrecy.specs.Alike.{Differs, AlikeSessions}
 use Rattle.model.proofs.Laws.{Stops}
@@ -32,7 +34,7 @@ use Rattle.theorem_secrecy.proofs.Heads.{head-kept, byte-kept}
 use Rattle.theorem_secrecy.proofs.Hiding.{Hides, hides-fed}
 use Rattle.theorem_secrecy.proofs.Grouping.{hides-grouping}
 use Rattle.theorem_secrecy.proofs.Events.{Walks, walks}
-use Rattle.theorem_secrecy.proofs.Turns.{hides-turn}
+use Rattle.theorem_secrecy.proofs.Turns.{Commutes, hides-turn, veil-sound}
 use Rattle.theorem_secrecy.proofs.Sessions.{alike-sessions}
 use Rattle.theorem_secrecy.proofs.Keeps.{Keeps, keeps-fed, keeps-grouping}
 use Rattle.theorem_secrecy.proofs.Told.{torn-fails}
@@ -182,7 +184,12 @@ agree-command capacity p1 b e s t states d =
     (λ left left′ u v same rest. rw (← (rest .size))
     (agree-walk (length left) capacity (length b) p1 left left′ u v same rest)) d)
 
--- a record: the first four bytes are seen, the data differs only in marked bytes, and what is behind it does not differ
+-- two records that differ only in marked bytes, on cards that look alike, have the same marks
+abbrev pub Agrees : Way → Type 0
+Agrees way = (c d : Card) (a r q : List ℕ) → veil every c ≡ veil every d → But (way .marks c a r) r q
+    → way .marks d a q ≡ way .marks c a r
+
+-- a record: the first four bytes are seen, the data differs only in marked bytes, and what is behind it is the same
 module _ (c d : Card) (a r q : List ℕ) (cards : veil every c ≡ veil every d) where
   same-test : (paddedZero r && walked (eventIn r) d) ≡ (paddedZero r && walked (eventIn r) c)
   same-test = ap (λ (x : Card). paddedZero r && walked (eventIn r) x) (sym cards)
@@ -218,7 +225,7 @@ module _ (c d : Card) (a r q : List ℕ) (cards : veil every c ≡ veil every d)
     same-walked : (paddedZero q && walked (eventIn q) c) ≡ true
     same-walked = rw (same-padding, same-first 0 (lit< tt), w .kind, w .selected, w .at-07)
 
-  agree-record : But (marksIn c a r) r q → marksIn d a q ≡ marksIn c a r
+  pub agree-record : But (marksIn c a r) r q → marksIn d a q ≡ marksIn c a r
   unfolding marksIn
   agree-record =
       by-cond (λ (ms : List Mark). But ms r q → marksIn d a q ≡ ms) (paddedZero r && walked (eventIn r) c)
@@ -228,35 +235,50 @@ module _ (c d : Card) (a r q : List ℕ) (cards : veil every c ≡ veil every d)
       rw walked-too (ap (λ (ms : List Mark). seens 4 ++ ms) (same-data w e)))
       (λ t e. rw (← (but-none r q e), same-test, t))
 
+-- a record that is played by itself: both are taken, or both are refused and the same
+same-playable : (room : ℕ) (c d : Card) (a r q : List ℕ) → veil every c ≡ veil every d → length r ≡ length q
+    → playable d a room q ≡ playable c a room r
+unfolding playable
+same-playable room c d a r q cards size =
+    let same : sound d ≡ sound c = sym (veil-sound every d) ∙ ap sound (sym cards) ∙ veil-sound every c in
+    rw (same, size)
+
+pub agree-play : (room : ℕ) → Agrees (oneByOne room)
+unfolding marksPlayed
+agree-play room c d a r q cards =
+    by-cond (λ (ms : List Mark). But ms r q → marksPlayed d a room q ≡ ms) (playable c a room r)
+    (λ p e. rw (same-playable room c d a r q cards (e .size), p) (agree-record c d a r q cards e))
+    (λ p e. rw (same-playable room c d a r q cards (e .size), p))
+
 -- a session: the two look alike
-module _ (z : Hiding) where
-  agree-views : (c d : Card) (a : List ℕ) (x y : List (List ℕ)) → veil every c ≡ veil every d → Differs z c a x y
-      → viewsFrom z c a x ≡ viewsFrom z d a y
+module _ (z : Hiding) (way : Way) (hides : Commutes every way) (agrees : Agrees way) where
+  pub agree-views : (c d : Card) (a : List ℕ) (x y : List (List ℕ)) → veil every c ≡ veil every d
+      → Differs z way c a x y → viewsFrom z way c a x ≡ viewsFrom z way d a y
   unfolding Differs viewsFrom
   agree-views c d a [] [] cards e = refl
   agree-views c d a [] (q ∷ qs) cards e = absurd e
   agree-views c d a (r ∷ rs) [] cards e = absurd e
   agree-views c d a (r ∷ rs) (q ∷ qs) cards e =
-      let t = turnOf c a r in
-      let u = turnOf d a q in
-      let but = but-hidden z (marksIn c a r) r q (e .0) in
-      let marks : marksIn d a q ≡ marksIn c a r = agree-record c d a r q cards but in
-      let views : viewRecord every c a r ≡ viewRecord every d a q =
-      but-view (marksIn c a r) r q but ∙ ap (λ (ms : List Mark). view every ms q) (sym marks) in
+      let t = way .turn c a r in
+      let u = way .turn d a q in
+      let ms = way .marks c a r in
+      let but = but-hidden z ms r q (e .0) in
+      let marks : way .marks d a q ≡ ms = agrees c d a r q cards but in
+      let views : view every ms r ≡ view every (way .marks d a q) q =
+      but-view ms r q but ∙ ap (λ (l : List Mark). view every l q) (sym marks) in
       let turns : veilTurn every t ≡ veilTurn every u =
-      sym (hides-turn every c a r) ∙ ap₂ (λ (s : Card) (l : List ℕ). turnOf s a l) cards views ∙ hides-turn every d a
-      q in
-      ap₂ {C = List (List ℕ)} (λ v l. v ∷ l) (hidden-view z (marksIn c a r) r q (e .0) ∙ ap
-      (λ (ms : List Mark). view z ms q) (sym marks))
+      sym (hides c a r) ∙ ap₂ (λ (s : Card) (l : List ℕ). way .turn s a l) cards views ∙ hides d a q in
+      ap₂ {C = List (List ℕ)} (λ v l. v ∷ l)
+      (hidden-view z ms r q (e .0) ∙ ap (λ (l : List Mark). view z l q) (sym marks))
       (agree-views (t .card) (u .card) (t .area) rs qs (ap (λ (v : Turn). v .card) turns) (e .1)
-      ∙ ap (λ (l : List ℕ). viewsFrom z (u .card) l qs) (ap (λ (v : Turn). v .area) turns))
+      ∙ ap (λ (l : List ℕ). viewsFrom z way (u .card) l qs) (ap (λ (v : Turn). v .area) turns))
 
 -- THE THEOREM, said of the bytes: a session, and another that differs from it only in value bytes inside '3800' and
 -- '410n' groupings that pass all their checks (or only in some of those bytes), both from fresh cards of one chip and
 -- with equal file areas
 pub differs-only-in-secrets : (z : Hiding) (chip : Chip) (a : List ℕ) (x y : List (List ℕ))
-    → Differs z (freshCard chip) a x y
+    → Differs z inSession (freshCard chip) a x y
     → AlikeSessions z (freshCard chip) (freshCard chip) a x y
 differs-only-in-secrets z chip a x y e =
-    alike-sessions z (freshCard chip) (freshCard chip) a x y refl
-    (agree-views z (freshCard chip) (freshCard chip) a x y refl e)
+    let c = freshCard chip in
+    alike-sessions z c c a x y refl (agree-views z inSession (hides-turn every) agree-record c c a x y refl e)

@@ -2,7 +2,8 @@
 -- that are given what may be seen, on a veiled card, do the same (Marks to Turns); so two sessions that look alike
 -- are alike (Cards, Sessions, Calls, Replay). What is hidden is what the card keeps as a secret, byte for byte
 -- (Places to Kept); the view tells which bytes those are (Told), and leaves all others (Leaves); a session that
--- differs from another only in such bytes looks like it (Goes to Differ). Witnesses last.
+-- differs from another only in such bytes looks like it (Goes to Differ), and so each call gives the same (Demand).
+-- Witnesses and Differing are computed.
 pub mod Marks
 pub mod Veils
 pub mod Rules
@@ -26,4 +27,6 @@ pub mod Leaves
 pub mod Goes
 pub mod Agree
 pub mod Differ
+pub mod Demand
 pub mod Witnesses
+pub mod Differing

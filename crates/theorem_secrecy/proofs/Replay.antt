@@ -9,14 +9,17 @@ use Rattle.lists.specs.Bytes.{byteAt, zeros}
 use Rattle.lists.specs.Choice.{by-cond}
 use Rattle.model.specs.declared.Card.{Card}
 use Rattle.model.specs.Stored.{chipSize, chipOf, chipForm, freshCard, eventIn, paddedZero, areaSize, answerRoom}
-use Rattle.model.specs.Session.{Turn, playOf, recordsIn, eventsIn}
+use Rattle.model.specs.Session.{Turn, playOf}
 use Rattle.model.specs.Lines.{lineOf, endOf, linesFrom, replayOf}
-use Rattle.theorem_secrecy.specs.View.{Mark, marksData, marksIn, walked, Hiding, every, view, viewRecord}
-use Rattle.theorem_secrecy.specs.View.{playable, viewPlay, viewPlays, replayViews}
+use Rattle.theorem_secrecy.specs.View.{Mark, marksData, marksIn, walked, Hiding, view, viewRecord, recordsOf}
+use Rattle.theorem_secrecy.specs.View.{Way, playable, marksPlayed, oneByOne, viewsFrom, replayViews}
 use Rattle.theorem_secrecy.specs.Veil.{veil}
 use Rattle.theorem_secrecy.proofs.Marks.{take-seen}
 use Rattle.theorem_secrecy.proofs.Heads.{byte-kept}
 use Rattle.theorem_secrecy.proofs.Turns.{hides-play}
+
+abbrev replayed : Way
+replayed = oneByOne answerRoom
 
 module _ (z : Hiding) where
   -- kind, P1, P2 and length are seen
@@ -27,11 +30,12 @@ module _ (z : Hiding) where
       (λ _. take-seen z 4 (marksData c a r) r)
       (λ _. unfold view in refl)
 
-  kind-seen : (c : Card) (a : List ℕ) (room : ℕ) (r : List ℕ) → byteAt (viewPlay z c a room r) 0 ≡ byteAt r 0
-  unfolding viewPlay
+  kind-seen : (c : Card) (a : List ℕ) (room : ℕ) (r : List ℕ) → byteAt (view z (marksPlayed c a room r) r) 0
+      ≡ byteAt r 0
+  unfolding marksPlayed
   kind-seen c a room r =
-      by-cond (λ (v : List ℕ). byteAt v 0 ≡ byteAt r 0) (playable c a room r)
-      (λ _. byte-kept 4 0 (viewRecord z c a r) r (head-seen c a r) (lit< tt)) (λ _. refl)
+      by-cond (λ (ms : List Mark). byteAt (view z ms r) 0 ≡ byteAt r 0) (playable c a room r)
+      (λ _. byte-kept 4 0 (viewRecord z c a r) r (head-seen c a r) (lit< tt)) (λ _. unfold view in refl)
 
   line-seen : (n kind number word : ℕ) (c : Card) → lineOf n kind number word (veil z c) ≡ lineOf n kind number word c
   line-seen n kind number word c = refl
@@ -42,31 +46,30 @@ module _ (z : Hiding) where
 
   -- the lines of the records as they may be seen, from the veiled card, are the lines
   pub hides-lines : (n : ℕ) (c : Card) (a : List ℕ) (rs : List (List ℕ))
-      → linesFrom n (veil z c) a (viewPlays z c a answerRoom rs) ≡ linesFrom n c a rs
-  unfolding linesFrom viewPlays
+      → linesFrom n (veil z c) a (viewsFrom z replayed c a rs) ≡ linesFrom n c a rs
+  unfolding linesFrom viewsFrom
   hides-lines n c a [] = refl
   hides-lines n c a (r ∷ rs) =
       let t = playOf c a answerRoom r in
-      let views = viewPlays z (t .card) (t .area) answerRoom rs in
+      let views = viewsFrom z replayed (t .card) (t .area) rs in
       ap₂ (λ (kind : ℕ) (u : Turn). printed n kind u views) (kind-seen c a answerRoom r)
-      (hides-play z c a answerRoom r)
+      (hides-play z answerRoom c a r)
       ∙ ap₂ (λ (x y : List ℕ). x ++ y) (line-seen (suc n) (byteAt r 0) (t .number) (t .word) (t .card))
       (hides-lines (suc n) (t .card) (t .area) rs)
 
   pub same-lines : (n : ℕ) (c d : Card) (a : List ℕ) (x y : List (List ℕ)) → veil z c ≡ veil z d
-      → viewPlays z c a answerRoom x ≡ viewPlays z d a answerRoom y
+      → viewsFrom z replayed c a x ≡ viewsFrom z replayed d a y
       → linesFrom n c a x ≡ linesFrom n d a y
   same-lines n c d a x y cards views =
       sym (hides-lines n c a x) ∙ ap₂ (λ (s : Card) (l : List (List ℕ)). linesFrom n s a l) cards views ∙ hides-lines
       n d a y
 
 -- THE THEOREM of `replay`: two inputs with equal chip records, whose event records look alike, print the same
-pub same-print : (x y : List ℕ) → take chipSize x ≡ take chipSize y → replayViews every x ≡ replayViews every y
+pub same-print : (z : Hiding) (x y : List ℕ) → take chipSize x ≡ take chipSize y → replayViews z x ≡ replayViews z y
     → replayOf x ≡ replayOf y
 unfolding replayOf
-same-print x y chips views =
+same-print z x y chips views =
     ap₂ (λ (b : List ℕ) (l : List ℕ). cond (chipForm b) l (endOf 0)) chips
-    (same-lines every 0 (freshCard (chipOf (take chipSize x))) (freshCard (chipOf (take chipSize y))) (zeros areaSize)
-    (recordsIn (eventsIn (drop chipSize x)) (drop chipSize x))
-    (recordsIn (eventsIn (drop chipSize y)) (drop chipSize y))
-    (ap (λ (b : List ℕ). veil every (freshCard (chipOf b))) chips) views)
+    (same-lines z 0 (freshCard (chipOf (take chipSize x))) (freshCard (chipOf (take chipSize y))) (zeros areaSize)
+    (recordsOf (drop chipSize x)) (recordsOf (drop chipSize y))
+    (ap (λ (b : List ℕ). veil z (freshCard (chipOf b))) chips) views)

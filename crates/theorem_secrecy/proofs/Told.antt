@@ -19,7 +19,7 @@ use Rattle.model.specs.Rules.{Result, went, asked, failed, fed, ruleA, grouping
 use Rattle.model.specs.Session.{Turn, turnOf}
 use Rattle.theorem_secrecy.specs.View.{Mark, seens, groupingMarks, missingIn, marksBy, marksWalk, marksCommand}
 use Rattle.theorem_secrecy.specs.View.{marksData, marksIn, marksFrom, walked, stateIn, Hiding, view, viewRecord}
-use Rattle.theorem_secrecy.specs.View.{viewsFrom}
+use Rattle.theorem_secrecy.specs.View.{inSession, viewsFrom}
 use Rattle.theorem_secrecy.specs.Veil.{veil, veilState}
 use Rattle.theorem_secrecy.proofs.Marks.{length-view}
 use Rattle.model.proofs.Laws.{Stops}
@@ -123,18 +123,18 @@ module _ (z : Hiding) where
       (λ e. unfold view in rw e)
 
   pub told-session : (c : Card) (a : List ℕ) (rs : List (List ℕ))
-      → marksFrom (veil z c) a (viewsFrom z c a rs) ≡ marksFrom c a rs
+      → marksFrom (veil z c) a (viewsFrom z inSession c a rs) ≡ marksFrom c a rs
   unfolding marksFrom viewsFrom
   told-session c a [] = refl
   told-session c a (r ∷ rs) =
       let t = turnOf c a r in
       ap₂ {C = List (List Mark)} (λ m l. m ∷ l) (told-record c a r)
-      (ap (λ (u : Turn). marksFrom (u .card) (u .area) (viewsFrom z (t .card) (t .area) rs))
+      (ap (λ (u : Turn). marksFrom (u .card) (u .area) (viewsFrom z inSession (t .card) (t .area) rs))
       (hides-turn z c a r) ∙ told-session (t .card) (t .area) rs)
 
   -- sessions that look alike have their secrets at the same places
   pub same-marks : (c d : Card) (a : List ℕ) (x y : List (List ℕ)) → veil z c ≡ veil z d
-      → viewsFrom z c a x ≡ viewsFrom z d a y → marksFrom c a x ≡ marksFrom d a y
+      → viewsFrom z inSession c a x ≡ viewsFrom z inSession d a y → marksFrom c a x ≡ marksFrom d a y
   same-marks c d a x y cards views =
       sym (told-session c a x) ∙ ap₂ (λ (s : Card) (l : List (List ℕ)). marksFrom s a l) cards views ∙ told-session d
       a y

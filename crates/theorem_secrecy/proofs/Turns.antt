@@ -17,7 +17,7 @@ use Rattle.model.specs.Events.{event}
 use Rattle.model.specs.Sound.{sound, soundWith, secretsOk, pendingFits}
 use Rattle.model.specs.Session.{Turn, refusedBy, replied, turnOf, playOf}
 use Rattle.theorem_secrecy.specs.View.{Mark, seens, marksCommand, marksData, marksIn, walked, stateIn, Hiding}
-use Rattle.theorem_secrecy.specs.View.{view, viewRecord, playable, viewPlay}
+use Rattle.theorem_secrecy.specs.View.{view, viewRecord, Way, inSession, playable, marksPlayed, oneByOne}
 use Rattle.theorem_secrecy.specs.Veil.{veil, veilSecrets, veilLoading, veilTurn}
 use Rattle.theorem_secrecy.proofs.Marks.{length-view, take-seen, drop-seen, take-view, view-within, drop-view}
 use Rattle.theorem_secrecy.proofs.Marks.{view-zero}
@@ -33,6 +33,11 @@ not-reached true true sound size x1 x2 x6 x3 t u e = refl
 not-reached true false false size x1 x2 x6 x3 t u e = refl
 not-reached true false true false x1 x2 x6 x3 t u e = refl
 not-reached true false true true x1 x2 x6 x3 t u e = absurd (true≢false e)
+
+-- hiding commutes with a record that is taken in this way
+abbrev pub Commutes : Hiding → Way → Type 0
+Commutes z way = (c : Card) (a r : List ℕ)
+    → way .turn (veil z c) a (view z (way .marks c a r) r) ≡ veilTurn z (way .turn c a r)
 
 module _ (z : Hiding) where
   veil-turn-if : (b : Bool) (x y : Turn) → cond b (veilTurn z x) (veilTurn z y) ≡ veilTurn z (cond b x y)
@@ -89,7 +94,7 @@ module _ (z : Hiding) where
       (λ (k : ℕ). replied (event (record { kind = k; p1 = byteAt r 1; bytes = d }) c a)) (w .kind)))
 
   -- THE KEY: the veiled card, given the record as it may be seen, does the same and comes to the same card, veiled
-  pub hides-turn : (c : Card) (a r : List ℕ) → turnOf (veil z c) a (viewRecord z c a r) ≡ veilTurn z (turnOf c a r)
+  pub hides-turn : Commutes z inSession
   unfolding marksIn
   hides-turn c a r =
       by-cond (λ (ms : List Mark). turnOf (veil z c) a (view z ms r) ≡ veilTurn z (turnOf c a r))
@@ -128,9 +133,8 @@ module _ (z : Hiding) where
       (turnOf (veil z c) a r) (veilTurn z (turnOf c a r)) p
       ∙ simp (← veil-turn-if))
 
-  pub hides-play : (c : Card) (a : List ℕ) (room : ℕ) (r : List ℕ)
-      → playOf (veil z c) a room (viewPlay z c a room r) ≡ veilTurn z (playOf c a room r)
-  unfolding viewPlay
-  hides-play c a room r =
-      by-cond (λ (v : List ℕ). playOf (veil z c) a room v ≡ veilTurn z (playOf c a room r)) (playable c a room r)
-      (λ _. play-hidden c a room r) (λ p. play-seen c a room r p)
+  pub hides-play : (room : ℕ) → Commutes z (oneByOne room)
+  unfolding marksPlayed
+  hides-play room c a r =
+      by-cond (λ (ms : List Mark). playOf (veil z c) a room (view z ms r) ≡ veilTurn z (playOf c a room r))
+      (playable c a room r) (λ _. play-hidden c a room r) (λ p. unfold view in play-seen c a room r p)

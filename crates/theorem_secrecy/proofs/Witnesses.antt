@@ -13,7 +13,7 @@ use Rattle.model.proofs.Computed.{computed}
 use Rattle.model.proofs.Scenes.{Bytes, blankCard, event, install, select, command, serial, startup, counter, key}
 use Rattle.model.proofs.Scenes.{table, df, linear, begun, asked, loaded, turns, endOf}
 use Rattle.theorem_secrecy.specs.View.{every, secretMarks, marksWalk, marksCommand, marksIn, view, viewRecord}
-use Rattle.theorem_secrecy.specs.View.{viewsFrom}
+use Rattle.theorem_secrecy.specs.View.{inSession, viewsFrom}
 use Rattle.theorem_secrecy.specs.Alike.{secretOf}
 
 -- a record that comes after a session of a fresh card of capacity 10, of which the card's life cycle is then made
@@ -53,7 +53,7 @@ abbrev blank : ℕ → ℕ → ℕ → Bytes
 blank hi lo n = hi ∷ lo ∷ n ∷ zeros n
 
 -- all before '3800', in a command of its own; and with '3800'
-abbrev toSecrets : Bytes
+abbrev pub toSecrets : Bytes
 toSecrets = serial ++ startup 10 ++ table (df 0 ++ linear)
 
 abbrev due38 : List Event
@@ -138,10 +138,10 @@ cases-hold = tt
 
 -- two loadings that differ in every key byte: they look alike, and the cards keep what each was given, so that the
 -- theorems speak of something
-abbrev keyOf : ℕ → ℕ → ℕ → Bytes
+abbrev pub keyOf : ℕ → ℕ → ℕ → Bytes
 keyOf hi lo v = hi ∷ lo ∷ 16 ∷ replicate 16 v
 
-abbrev loading : ℕ → List Event
+abbrev pub loading : ℕ → List Event
 loading v =
     asked (command 0x80 (toSecrets ++ keyOf 0x38 0x00 v ++ keyOf 0x41 0x01 v ++ keyOf 0x41 0x02 v ++ keyOf 0x41 0x03
     v) ∷ select ∷ [])
@@ -157,7 +157,7 @@ sameAll (x ∷ xs) [] = false
 sameAll (x ∷ xs) (y ∷ ys) = same x y && sameAll xs ys
 
 abbrev viewsOf : ℕ → List Bytes
-viewsOf v = viewsFrom every (blankCard 10) (zeros areaSize) (records (loading v))
+viewsOf v = viewsFrom every inSession (blankCard 10) (zeros areaSize) (records (loading v))
 
 abbrev keptKey : ℕ → Bytes
 keptKey v = secretOf (endOf (turns 10 (loading v)) .card) 3 .bytes

@@ -8,8 +8,8 @@ use Rattle.lists.specs.Bytes.{byteAt}
 use Rattle.model.specs.declared.Secret.{Secret}
 use Rattle.model.specs.declared.Card.{Card}
 use Rattle.model.specs.Stored.{noSecret}
-use Rattle.model.specs.Session.{Turn, refusedBy, turnOf, playOf, Run, runFrom}
-use Rattle.theorem_secrecy.specs.View.{Mark, seen, secret, markAt, marksIn, Hiding}
+use Rattle.model.specs.Session.{Turn, refusedBy, Run, runFrom, Session}
+use Rattle.theorem_secrecy.specs.View.{Mark, seen, secret, markAt, Hiding, Way, inSession}
 
 abbrev pub secretOf : Card → ℕ → Secret
 secretOf c k = getD (c .loading .secrets) k noSecret
@@ -42,22 +42,21 @@ pub record AlikeTurns (z : Hiding) (t u : Turn) : Type 0 where
   pub card : AlikeCards z (t .card) (u .card)
 
 -- what event k of a session comes to, from 0; past the last, nothing
-unfoldable pub turnAt : Card → List ℕ → List (List ℕ) → ℕ → Turn
-turnAt c a [] k = refusedBy 0 c a
-turnAt c a (r ∷ rs) zero = turnOf c a r
-turnAt c a (r ∷ rs) (suc k) = let t = turnOf c a r in turnAt (t .card) (t .area) rs k
-
--- the same for events played one by one, with the answer buffer's room
-unfoldable pub playAt : Card → List ℕ → ℕ → List (List ℕ) → ℕ → Turn
-playAt c a room [] k = refusedBy 0 c a
-playAt c a room (r ∷ rs) zero = playOf c a room r
-playAt c a room (r ∷ rs) (suc k) = let t = playOf c a room r in playAt (t .card) (t .area) room rs k
+unfoldable pub turnAt : Way → Card → List ℕ → List (List ℕ) → ℕ → Turn
+turnAt way c a [] k = refusedBy 0 c a
+turnAt way c a (r ∷ rs) zero = way .turn c a r
+turnAt way c a (r ∷ rs) (suc k) = let t = way .turn c a r in turnAt way (t .card) (t .area) rs k
 
 -- the two sessions so far: the words, each file byte, and the card
 pub record AlikeRuns (z : Hiding) (w u : Run) : Type 0 where
   pub words : w .words ≡ u .words
   pub area : w .area ≡ u .area
   pub card : AlikeCards z (w .card) (u .card)
+
+-- a session's call: the number, and the run
+pub record AlikeCalls (z : Hiding) (s t : Session) : Type 0 where
+  pub number : s .number ≡ t .number
+  pub run : AlikeRuns z (s .run) (t .run)
 
 abbrev pub start : Card → List ℕ → Run
 start c a = record { words = []; card = c; area = a }
@@ -66,7 +65,7 @@ start c a = record { words = []; card = c; area = a }
 -- each k
 pub record AlikeSessions (z : Hiding) (c d : Card) (a : List ℕ) (x y : List (List ℕ)) : Type 0 where
   pub count : length x ≡ length y
-  pub events : (k : ℕ) → AlikeTurns z (turnAt c a x k) (turnAt d a y k)
+  pub events : (k : ℕ) → AlikeTurns z (turnAt inSession c a x k) (turnAt inSession d a y k)
   pub runs : (k : ℕ) → AlikeRuns z (runFrom (start c a) (take k x)) (runFrom (start d a) (take k y))
 
 -- a byte with this mark may be seen
@@ -81,9 +80,9 @@ pub record ButForSecrets (z : Hiding) (ms : List Mark) (r q : List ℕ) : Type 0
 
 -- A session and another that is like it but for value bytes inside '3800' and '410n' groupings that pass all their
 -- checks: those that the first's own run marks. Of the other's run nothing is asked.
-unfoldable pub Differs : Hiding → Card → List ℕ → List (List ℕ) → List (List ℕ) → Type 0
-Differs z c a [] [] = Unit {0}
-Differs z c a [] (q ∷ qs) = ⊥
-Differs z c a (r ∷ rs) [] = ⊥
-Differs z c a (r ∷ rs) (q ∷ qs) = ButForSecrets z (marksIn c a r) r q
-    × Differs z (turnOf c a r .card) (turnOf c a r .area) rs qs
+unfoldable pub Differs : Hiding → Way → Card → List ℕ → List (List ℕ) → List (List ℕ) → Type 0
+Differs z way c a [] [] = Unit {0}
+Differs z way c a [] (q ∷ qs) = ⊥
+Differs z way c a (r ∷ rs) [] = ⊥
+Differs z way c a (r ∷ rs) (q ∷ qs) = ButForSecrets z (way .marks c a r) r q
+    × Differs z way (way .turn c a r .card) (way .turn c a r .area) rs qs

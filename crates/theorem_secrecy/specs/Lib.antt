@@ -3,3 +3,4 @@ pub mod View
 pub mod Veil
 pub mod Alike
 pub mod Kept
+pub mod Demand

@@ -19,7 +19,7 @@ use Rattle.model.specs.Header.{headerOf}
 use Rattle.model.specs.Loads.{State}
 use Rattle.model.specs.Rules.{Result, went, asked, failed, fed, grouping}
 use Rattle.model.specs.Sound.{sound}
-use Rattle.model.specs.Session.{turnOf, playOf, recordsIn, eventsIn, runOf}
+use Rattle.model.specs.Session.{Turn, turnOf, playOf, recordsIn, eventsIn, runOf}
 
 -- What a record's byte is: seen by all, or byte j of secret k. Secret k is row k + 6: '3800' is 0, '4101' to '4104'
 -- are 1 to 4.
@@ -125,23 +125,35 @@ view z (m ∷ ms) (b ∷ bs) = shownAs z m b ∷ view z ms bs
 abbrev pub viewRecord : Hiding → Card → List ℕ → List ℕ → List ℕ
 viewRecord z c a r = view z (marksIn c a r) r
 
--- the records of a session, each as it may be seen at its place in the run
-unfoldable pub viewsFrom : Hiding → Card → List ℕ → List (List ℕ) → List (List ℕ)
-viewsFrom z c a [] = []
-viewsFrom z c a (r ∷ rs) = let t = turnOf c a r in viewRecord z c a r ∷ viewsFrom z (t .card) (t .area) rs
+-- How a session's records are taken: which bytes of one are marked, on a card and an area, and what it comes to.
+pub record Way : Type 0 where
+  pub marks : Card → List ℕ → List ℕ → List Mark
+  pub turn : Card → List ℕ → List ℕ → Turn
 
--- one event's record, and those of events played one by one: of a record that number 1, 2, 6 or 3 refuses nothing is
--- hidden either
+-- as records of a session's call
+abbrev pub inSession : Way
+inSession = record { marks = marksIn; turn = turnOf }
+
+-- or each by a call of its own, with so much room for the answer: of a record that number 1, 2, 6 or 3 refuses
+-- nothing is hidden either
 unfoldable pub playable : Card → List ℕ → ℕ → List ℕ → Bool
 playable c a room r = eqb (length a) areaSize && not (ltb room answerRoom) && sound c && eqb (length r) recordSize
 
-unfoldable pub viewPlay : Hiding → Card → List ℕ → ℕ → List ℕ → List ℕ
-viewPlay z c a room r = cond (playable c a room r) (viewRecord z c a r) r
+unfoldable pub marksPlayed : Card → List ℕ → ℕ → List ℕ → List Mark
+marksPlayed c a room r = cond (playable c a room r) (marksIn c a r) []
 
-unfoldable pub viewPlays : Hiding → Card → List ℕ → ℕ → List (List ℕ) → List (List ℕ)
-viewPlays z c a room [] = []
-viewPlays z c a room (r ∷ rs) = let t = playOf c a room r in
-    viewPlay z c a room r ∷ viewPlays z (t .card) (t .area) room rs
+abbrev pub oneByOne : ℕ → Way
+oneByOne room = record { marks = λ c a r. marksPlayed c a room r; turn = λ c a r. playOf c a room r }
+
+-- the records of a session, each as it may be seen at its place in the run
+unfoldable pub viewsFrom : Hiding → Way → Card → List ℕ → List (List ℕ) → List (List ℕ)
+viewsFrom z way c a [] = []
+viewsFrom z way c a (r ∷ rs) =
+    let t = way .turn c a r in view z (way .marks c a r) r ∷ viewsFrom z way (t .card) (t .area) rs
+
+-- the records that bytes hold; a torn last one is none
+abbrev pub recordsOf : List ℕ → List (List ℕ)
+recordsOf bytes = recordsIn (eventsIn bytes) bytes
 
 -- a session's bytes: nothing is hidden of a session that is refused
 unfoldable pub joined : List (List ℕ) → List ℕ
@@ -150,10 +162,10 @@ joined (r ∷ rs) = r ++ joined rs
 
 unfoldable pub viewOf : Hiding → Card → List ℕ → ℕ → List ℕ → List ℕ
 viewOf z c a room bytes =
-    cond (eqb (runOf c a room bytes .number) 0) (joined (viewsFrom z c a (recordsIn (eventsIn bytes) bytes))) bytes
+    cond (eqb (runOf c a room bytes .number) 0) (joined (viewsFrom z inSession c a (recordsOf bytes))) bytes
 
 -- the records that `replay` reads, each as it may be seen
 abbrev pub replayViews : Hiding → List ℕ → List (List ℕ)
 replayViews z input =
-    viewPlays z (freshCard (chipOf (take chipSize input))) (zeros areaSize) answerRoom
-    (recordsIn (eventsIn (drop chipSize input)) (drop chipSize input))
+    viewsFrom z (oneByOne answerRoom) (freshCard (chipOf (take chipSize input))) (zeros areaSize)
+    (recordsOf (drop chipSize input))
