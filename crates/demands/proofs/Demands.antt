@@ -16,6 +16,9 @@ use Rattle.model.specs.Stored.{chipSize, chipOf, freshCard, eventIn}
 use Rattle.model.specs.Events.{event}
 use Rattle.model.specs.Session.{Turn, Session, freshOf, playOf, runOf, shownOf}
 use Rattle.model.specs.Order.{Writing, writeOf}
+use Rattle.theorem_secrecy.specs.View.{Hiding}
+use Rattle.theorem_secrecy.specs.Demand.{SecretsStaySecret}
+use Rattle.theorem_secrecy.proofs.Demand as secrecy
 use Rattle.event_replies.specs.Plays.{Plays}
 use Rattle.call_run.specs.Runs.{Runs}
 use Rattle.order_cuts.specs.Cuts.{joined}
@@ -93,3 +96,11 @@ event-as-defined c area answer r area′ answer′ x p h =
       p .counts ∙ ap (λ (t : Turn). length (t .answer)) q,
       p .writes ∙ ap (λ (t : Turn). overwrite answer 0 (t .answer)) q,
     )
+
+-- 3. "Secrets stay secret. Two sessions from fresh cards of one chip, equal file areas, alike but for value bytes inside
+-- activation, key or PIN groupings that pass all their checks: event by event every word, answer, state, table entry,
+-- file byte and refusal is the same; the cards differ only in the kept secrets, at those bytes." Event by event, shown
+-- records, sessions and what `replay` prints are the four parts of `SecretsStaySecret` (theorem_secrecy/specs/Demand).
+
+pub secrets-stay-secret : (z : Hiding) → SecretsStaySecret z
+secrets-stay-secret = secrecy.secrets-stay-secret

@@ -8,9 +8,10 @@ use lib.Dec.{eqb, ltb}
 use lib.ListN.{length, take, drop}
 use Rattle.lists.specs.Bytes.{zeros}
 use Rattle.model.specs.declared.Card.{Card}
+use Rattle.model.specs.declared.Shown.{Shown}
 use Rattle.model.specs.Stored.{chipSize, chipOf, freshCard, areaSize, answerRoom, recordSize}
 use Rattle.model.specs.Sound.{sound}
-use Rattle.model.specs.Session.{Turn, Run, runFrom, Session, noRun, runOf, Shown, shownOf}
+use Rattle.model.specs.Session.{Turn, Run, runFrom, Session, noRun, runOf, shownOf, partShown}
 use Rattle.model.specs.Lines.{replayOf}
 use Rattle.theorem_secrecy.specs.View.{Hiding, every, inSession, oneByOne, viewsFrom, recordsOf}
 use Rattle.theorem_secrecy.specs.Veil.{veil, veilTurn, veilRun, veilSession}
@@ -26,6 +27,9 @@ use Rattle.theorem_secrecy.proofs.Differ.{agree-record, agree-play, agr
 -- whether a record may be shown asks of the secrets only their lengths
 abbrev shownIn : ℕ → ℕ → Turn → Shown
 shownIn sfi nn t = shownOf (t .card) (t .area) sfi nn
+
+abbrev partIn : ℕ → ℕ → Turn → List ℕ
+partIn sfi nn t = partShown (t .area) (shownIn sfi nn t)
 
 veil-shown : (z : Hiding) (sfi nn : ℕ) (t : Turn) → shownIn sfi nn (veilTurn z t) ≡ shownIn sfi nn t
 unfolding shownOf
@@ -49,6 +53,9 @@ module _ (z : Hiding) (c : Card) (a : List ℕ) (room : ℕ) where
     pub alike-shown : (k sfi nn : ℕ) → shownIn sfi nn (at x k) ≡ shownIn sfi nn (at y k)
     alike-shown k sfi nn =
         sym (veil-shown z sfi nn (at x k)) ∙ ap (shownIn sfi nn) (same-events k) ∙ veil-shown z sfi nn (at y k)
+
+    pub alike-parts : (k sfi nn : ℕ) → partIn sfi nn (at x k) ≡ partIn sfi nn (at y k)
+    alike-parts k sfi nn = ap₂ partShown (alike-events k .area) (alike-shown k sfi nn)
 
   -- a session a call: of the bytes the refusals ask only how many they are
   abbrev answered : ℕ → Run → Session
@@ -88,7 +95,7 @@ alike-print z x y chips differs =
 pub secrets-stay-secret : (z : Hiding) → SecretsStaySecret z
 secrets-stay-secret z = record {
   events = alike-events z;
-  shown = alike-shown z;
+  shown = λ c a room x y e k sfi nn. (alike-shown z c a room x y e k sfi nn, alike-parts z c a room x y e k sfi nn);
   session = alike-session z;
   printed = alike-print z;
 }
