@@ -60,6 +60,7 @@ run-refused c area session words area′ words′ x p =
 pub write-refused : (chip order room room′ : List ℕ) (x : Written)
     → Writes (writeOf chip order (length room)) room x room′
     → (x .number ≤ 11) × (Refused (x .number) → (x .count ≡ 0) × (room′ ≡ room))
+unfolding joined
 write-refused chip order room room′ x p =
     let t = told-write chip order (length room) in (
       rw (p .number) (t .0),
