@@ -18,6 +18,7 @@ use Rattle.model.specs.Sound.{sound}
 use Rattle.model.specs.Order.{Writing}
 use Rattle.model.specs.Lines.{lineOf, endOf, replayOf}
 use Rattle.theorem_cutting.specs.Job.{jobWith, sessionOf, Taken}
+use Rattle.theorem_cutting.proofs.Fronts.{job-front}
 use Rattle.theorem_cutting.proofs.Writes.{write-only, write-taken}
 use Rattle.card_fresh.proofs.Chips.{form-size}
 use Rattle.event_replies.proofs.Records.{records-more}
@@ -147,8 +148,8 @@ module _ (chip order : List ℕ) (room : ℕ) (z : sessionWriting chip order roo
       runOf (freshOf chip .card) (zeros areaSize) (length (jobWith rs)) (sessionOf rs)
 
   taken : Taken (length (jobWith (sessionWriting chip order room .records))) ran
-  unfolding ran
-  taken = write-taken chip (zeros areaSize) order (room - frontSize) _ z refl (omega arith)
+  unfolding ran jobWith
+  taken = write-taken job-front chip (zeros areaSize) order (room - frontSize) _ z refl (omega arith)
 
   ran-so : ran .run ≡ runFrom (runAs [] (begun 0 (freshOf chip .card) (zeros areaSize)))
       (recordsIn (eventsOf (sessionWriting chip order room)) (sessionOf (sessionWriting chip order room .records)))

@@ -14,7 +14,7 @@ use Rattle.model.specs.declared.Written.{Written}
 use Rattle.model.specs.Stored.{chipOf, chipForm, recordSize}
 use Rattle.model.specs.Order.{orderLimit, complete, recordsFor, Writing, writeOf}
 use Rattle.theorem_cutting.specs.Packs as packs
-use Rattle.theorem_cutting.specs.Job.{installRecord, selectRecord, installData, instanceName, jobWith, sessionOf}
+use Rattle.theorem_cutting.specs.Job.{installEvent, selectEvent, installRecord, selectRecord, jobWith, sessionOf}
 use Rattle.theorem_cutting.specs.Job.{Accepted}
 use Rattle.theorem_cutting.proofs.Stored.{record-length}
 use Rattle.theorem_cutting.proofs.Commands.{records-few}
@@ -26,11 +26,11 @@ use Rattle.job_session.specs.Laid.{frontSize, sessionWriting, sessionByt
 
 pub install-length : length installRecord ≡ recordSize
 unfolding installRecord
-install-length = record-length (record { kind = 1; p1 = 0x0C; bytes = installData }) (omega arith)
+install-length = record-length installEvent (omega arith)
 
 pub select-length : length selectRecord ≡ recordSize
 unfolding selectRecord
-select-length = record-length (record { kind = 3; p1 = 0x00; bytes = instanceName }) (omega arith)
+select-length = record-length selectEvent (omega arith)
 
 front-length : length (installRecord ++ selectRecord) ≡ frontSize
 front-length = rw (length-append installRecord selectRecord, install-length, select-length)

@@ -28,7 +28,7 @@ fn select_record() -> [u8; 260]
     ensures { λ r. ⌜ (r ≡ selectRecord) × (260 ≡ length r) ⌝ }
 {
     let mut record = [0u8; 260];
-    memory::lay(&mut record, b"\x03\x00\x00\x081TIC.ICA");
+    memory::lay(&mut record, b"\x03\x04\x00\x081TIC.ICA");
     record
 }
 

@@ -10,7 +10,7 @@ use Rattle.model.specs.declared.Written.{Written}
 use Rattle.model.specs.Stored.{recordSize}
 use Rattle.model.specs.Command.{walk}
 use Rattle.model.specs.Order.{challengedState, finished, recordsFor, Writing, noWriting}
-use Rattle.theorem_cutting.specs.Job.{installRecord, selectRecord}
+use Rattle.theorem_cutting.specs.Packs as packs
 use Rattle.order_cuts.specs.Cuts.{joined}
 
 -- its number, how many records, and those end to end over the front of the room; all else of the room stays
@@ -29,6 +29,6 @@ cutFor order room =
     cond (ltb room (length (recordsFor order) * recordSize)) (noWriting 11)
     (record { number = 0; records = recordsFor order })
 
--- the session that is made of it: INSTALL '0C', SELECT, and so many records from the front of the room
-unfoldable pub sessionIn : ℕ → List ℕ → List ℕ
-sessionIn count room = installRecord ++ (selectRecord ++ take (count * recordSize) room)
+-- the session that is made of it: some records, and behind them so many from the front of the room
+unfoldable pub sessionIn : List (List ℕ) → ℕ → List ℕ → List ℕ
+sessionIn front count room = packs.joined front ++ take (count * recordSize) room

@@ -12,7 +12,8 @@ use Rattle.model.specs.Stored.{recordSize, dataRoom, areaSize, chipOf}
 use Rattle.model.specs.Session.{freshOf, runOf}
 use Rattle.model.specs.Order.{complete, cutOf, stored, storedAll, recordsFor, Writing, writeOf}
 use Rattle.theorem_cutting.specs.Packs as packs
-use Rattle.theorem_cutting.specs.Job.{jobWith, sessionOf, Taken, Accepted}
+use Rattle.theorem_cutting.specs.Job.{Front, Taken, Accepted}
+use Rattle.theorem_cutting.proofs.Packing.{joined-append}
 use Rattle.theorem_cutting.proofs.Commands.{cut-sized}
 use Rattle.theorem_cutting.proofs.Stored.{record-length}
 use Rattle.theorem_cutting.proofs.Writes.{write-only, write-all, write-taken}
@@ -61,27 +62,29 @@ joined-same [] = refl
 joined-same (r ∷ rs) = ap (λ (l : List ℕ). r ++ l) (joined-same rs)
 
 -- the records' session, read from the front of the room where they were laid
-session-front : (rs : List (List ℕ)) (before after : List ℕ) (k : ℕ) → k ≡ length rs
+session-front : (front rs : List (List ℕ)) (before after : List ℕ) (k : ℕ) → k ≡ length rs
     → length (joined rs) ≡ length rs * recordSize
-    → length (joined rs) ≤ length before → after ≡ overwrite before 0 (joined rs) → sessionOf rs ≡ sessionIn k after
-unfolding jobWith packs.joined sessionIn
-session-front rs before after k e n h f =
+    → length (joined rs) ≤ length before → after ≡ overwrite before 0 (joined rs)
+    → packs.joined (front ++ rs) ≡ sessionIn front k after
+unfolding sessionIn
+session-front front rs before after k e n h f =
     let t : take (k * recordSize) after ≡ joined rs =
     rw (f, over-zero (joined rs) before h) (take-at (joined rs) (drop (length (joined rs)) before) (k * recordSize)
     (rw e n)) in
-    rw (t, joined-same rs)
+    rw (t, joined-append front rs, joined-same rs)
 
--- where the writer says 0, a fresh card of that chip record takes INSTALL '0C', SELECT and what it left in the room:
--- each word is '9000', and the card ends '07' and 'A5'
-pub written-taken : (chip a order before after : List ℕ) (r : Written) (wordRoom : ℕ)
+-- where the writer says 0, a fresh card of that chip record takes any front and what it left in the room: each word
+-- is '9000', and the card ends '07' and 'A5'
+pub written-taken : {name : List ℕ} {front : List (List ℕ)} → Front name front
+    → (chip a order before after : List ℕ) (r : Written) (wordRoom : ℕ)
     → Writes (writeOf chip order (length before)) before r after → r .number ≡ 0 → length a ≡ areaSize
-    → 2 + r .count ≤ wordRoom
-    → Taken (2 + r .count) (runOf (freshOf chip .card) a wordRoom (sessionIn (r .count) after))
-written-taken chip a order before after r wordRoom x e la l =
-    subst (λ (b : List ℕ). Taken (2 + r .count) (runOf (freshOf chip .card) a wordRoom b))
-    (session-front rs before after (r .count) (x .count) n m (x .room))
-    (subst (λ (k : ℕ). Taken k (runOf (freshOf chip .card) a wordRoom (sessionOf rs))) j
-    (write-taken chip a order (length before) wordRoom (sym (x .number) ∙ e) la (rw j l)))
+    → length front + r .count ≤ wordRoom
+    → Taken (length front + r .count) (runOf (freshOf chip .card) a wordRoom (sessionIn front (r .count) after))
+written-taken {front} g chip a order before after r wordRoom x e la l =
+    subst (λ (b : List ℕ). Taken (length front + r .count) (runOf (freshOf chip .card) a wordRoom b))
+    (session-front front rs before after (r .count) (x .count) n m (x .room))
+    (subst (λ (k : ℕ). Taken k (runOf (freshOf chip .card) a wordRoom (packs.joined (front ++ rs)))) j
+    (write-taken g chip a order (length before) wordRoom (sym (x .number) ∙ e) la (rw j l)))
   where
     rs : List (List ℕ)
     rs = writeOf chip order (length before) .records
@@ -98,5 +101,5 @@ written-taken chip a order before after r wordRoom x e la l =
     m : length (joined rs) ≤ length before
     m = rw (n, w) (h .room-so)
 
-    j : length (jobWith rs) ≡ 2 + r .count
-    j = unfold jobWith in rw (x .count) (omega arith)
+    j : length (front ++ rs) ≡ length front + r .count
+    j = rw (length-append front rs, x .count)

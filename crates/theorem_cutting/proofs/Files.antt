@@ -22,13 +22,14 @@ use Rattle.model.specs.Loads.{State, fileList, withInternal, changed}
 use Rattle.model.specs.Rules.{Result, went, asked, failed, tagSpot, recordDone, grouping}
 use Rattle.model.specs.Command.{walk, ready}
 use Rattle.model.specs.Session.{freshOf, Session, runOf}
-use Rattle.model.specs.Order.{challengedState, finished, complete, recordsFor, Writing, writeOf}
-use Rattle.theorem_cutting.specs.Job.{jobWith, sessionOf, stateOf, uncut, Accepted}
+use Rattle.model.specs.Order.{challengedState, finished, complete, recordsFor, writeOf}
+use Rattle.theorem_cutting.specs.Packs.{joined}
+use Rattle.theorem_cutting.specs.Job.{Front, stateOf, uncut}
 use Rattle.theorem_cutting.specs.Contents.{Grouped, groupedIn, ssnnOf, valuesOf, Each, Contents}
 use Rattle.theorem_cutting.proofs.Heads.{Long, header-long}
 use Rattle.theorem_cutting.proofs.Commands.{finished-ready}
 use Rattle.theorem_cutting.proofs.Taken.{cut-same-end}
-use Rattle.theorem_cutting.proofs.Writes.{write-only, write-all, fresh-form}
+use Rattle.theorem_cutting.proofs.Writes.{fresh-form, by-writing}
 use Rattle.theorem_cutting.proofs.Laid.{outside-all, zeros-get, length-all, kept-all}
 use Rattle.theorem_cutting.proofs.Passed.{both, Passed, grouping-passed}
 use Rattle.theorem_cutting.proofs.Listed.{Fits, Gives, Leaving, early-row, before-stays}
@@ -226,29 +227,24 @@ complete-contents capacity order so =
     filled-contents (fileList (stateOf r .load)) (ssnnOf (groupedIn (length order) order)) (stateOf r .area)
     (e .fits .within) (seen-filled (e .seen))
 
--- and so does the writer's cut of it, played
-pub taken-contents : (chip : Chip) (a order : List ℕ) (room : ℕ) → complete (chip .capacity) order ≡ true
-    → length a ≡ areaSize → length (jobWith (recordsFor order)) ≤ room
-    → Contents (fileList (runOf (freshCard chip) a room (sessionOf (recordsFor order)) .run .card .loading))
-    (valuesOf order) (runOf (freshCard chip) a room (sessionOf (recordsFor order)) .run .area)
-taken-contents chip a order room so la l =
+-- and so does the writer's cut of it, played behind any front
+pub taken-contents : {name : List ℕ} {front : List (List ℕ)} → Front name front → (chip : Chip) (a order : List ℕ)
+    (room : ℕ) → complete (chip .capacity) order ≡ true
+    → length a ≡ areaSize → length (front ++ recordsFor order) ≤ room
+    → let x = runOf (freshCard chip) a room (joined (front ++ recordsFor order)) in
+    Contents (fileList (x .run .card .loading)) (valuesOf order) (x .run .area)
+taken-contents f chip a order room so la l =
     subst (λ (x : Session). Contents (fileList (x .run .card .loading)) (valuesOf order) (x .run .area))
-    (sym (cut-same-end chip order so a room la l)) (complete-contents (chip .capacity) order so)
+    (sym (cut-same-end f chip order so a room la l)) (complete-contents (chip .capacity) order so)
 
 -- the same of whatever the writer cuts for a chip record
-pub write-contents : (chip a order : List ℕ) (room wordRoom : ℕ) → writeOf chip order room .number ≡ 0
-    → length a ≡ areaSize
-    → length (jobWith (writeOf chip order room .records)) ≤ wordRoom
-    → let x = runOf (freshOf chip .card) a wordRoom (sessionOf (writeOf chip order room .records)) in
+pub write-contents : {name : List ℕ} {front : List (List ℕ)} → Front name front → (chip a order : List ℕ)
+    (room wordRoom : ℕ) → writeOf chip order room .number ≡ 0 → length a ≡ areaSize
+    → length (front ++ writeOf chip order room .records) ≤ wordRoom
+    → let x = runOf (freshOf chip .card) a wordRoom (joined (front ++ writeOf chip order room .records)) in
     Contents (fileList (x .run .card .loading)) (valuesOf order) (x .run .area)
-write-contents chip a order room wordRoom e la l =
-    let h : Accepted chip order room = write-only chip order room e in
-    by-records (writeOf chip order room .records) (ap (λ (w : Writing). w .records) (write-all chip order room h)) h l
-  where
-    by-records : (rs : List (List ℕ)) → rs ≡ recordsFor order → Accepted chip order room
-        → length (jobWith rs) ≤ wordRoom
-        → let x = runOf (freshOf chip .card) a wordRoom (sessionOf rs) in
-        Contents (fileList (x .run .card .loading)) (valuesOf order) (x .run .area)
-    by-records rs q h k =
-        rw (q, fresh-form chip (h .form)) (taken-contents (chipOf chip) a order wordRoom (h .complete-so) la
-        (subst (λ (y : List (List ℕ)). length (jobWith y) ≤ wordRoom) q k))
+write-contents {front} f chip a order room wordRoom e la =
+    by-writing (λ (rs : List (List ℕ)). length (front ++ rs) ≤ wordRoom
+    → let x = runOf (freshOf chip .card) a wordRoom (joined (front ++ rs)) in
+    Contents (fileList (x .run .card .loading)) (valuesOf order) (x .run .area)) chip order room
+    (λ h l. rw (fresh-form chip (h .form)) (taken-contents f (chipOf chip) a order wordRoom (h .complete-so) la l)) e

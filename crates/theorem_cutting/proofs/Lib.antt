@@ -13,9 +13,10 @@ pub mod Begins
 pub mod Units
 pub mod Packing
 pub mod Commands
--- The records, the session, the writer (Stored: `event-back`, `records-hold`; Taken: `cut-same-end`, `taken-all`;
--- Writes: `write-taken`).
+-- The records, the session, the writer (Stored: `event-back`, `records-hold`; Fronts: `front-played`, `job-front`;
+-- Taken: `cut-same-end`, `taken-all`; Writes: `write-taken`).
 pub mod Stored
+pub mod Fronts
 pub mod Played
 pub mod Taken
 pub mod Writes

@@ -51,6 +51,11 @@ turn-stored e c a k =
     rw (kind-stored e k, record-padded e) (ap (λ (x : Event). replied (event x c a)) (event-back e))
 
 -- records of 260 bytes each, end to end
+pub sized-one : (r : List ℕ) (rs : List (List ℕ)) → length r ≡ recordSize → Sized recordSize recordSize rs
+    → Sized recordSize recordSize (r ∷ rs)
+sized-one r rs e z = let l : recordSize ≤ length r = omega arith in let m : length r ≤ recordSize =
+    omega arith in more l m z
+
 pub joined-length : (rs : List (List ℕ)) → Sized recordSize recordSize rs
     → length (joined rs) ≡ length rs * recordSize
 unfolding joined

@@ -1,11 +1,11 @@
 -- THE CARD TAKES WHATEVER THE WRITER CUTS: the return of demand 2, over `runOf` and `writeOf`.
-use Prim.Native.Nat.{ℕ, _*_, _%_, _≤_}
+use Prim.Native.Nat.{ℕ, suc, _+_, _*_, _%_, _≤_}
 use mathlib.Core.Path.{_≡_, refl, sym, ap, _∙_, subst}
 use mathlib.Core.Bool.{true, false}
 use mathlib.Core.List.{List, [], _∷_, _++_}
 use native.Mathlib.Omega.{arith}
 use lib.Dec.{lit≤}
-use lib.ListN.{length, replicate}
+use lib.ListN.{length, replicate, length-append, replicate-append-replicate}
 use borrow.Author.Tests.{eq-eqb, le-ltb}
 use Rattle.model.specs.declared.Chip.{Chip}
 use Rattle.model.specs.declared.Card.{Card}
@@ -18,12 +18,13 @@ use Rattle.model.specs.Sound.{sound, soundWith, secretsOk}
 use Rattle.model.specs.Session.{Run, runFrom, eventsIn, runOf}
 use Rattle.model.specs.Order.{challengedState, complete, cutOf, storedAll, recordsFor}
 use Rattle.theorem_cutting.specs.Packs.{joined, Sized, none, more}
-use Rattle.theorem_cutting.specs.Job.{installRecord, selectRecord, jobWith, sessionOf, jobCard, uncut, Taken}
+use Rattle.theorem_cutting.specs.Job.{Front, jobCard, uncut, Taken}
 use Rattle.theorem_cutting.proofs.Units.{Chain, done, link}
-use Rattle.theorem_cutting.proofs.Stored.{record-length, joined-length, joined-apart}
+use Rattle.theorem_cutting.proofs.Fronts.{runAt, front-sized}
+use Rattle.theorem_cutting.proofs.Stored.{sized-one, joined-length, joined-apart}
 use Rattle.theorem_cutting.proofs.Commands.{cut-chain, cut-sized, complete-ready, not-ready}
-use Rattle.model.proofs.Laws.{length-all, length-stored}
-use Rattle.theorem_cutting.proofs.Played.{runAt, loaded, takes-all, asking, begun-all}
+use Rattle.model.proofs.Laws.{length-stored, length-written}
+use Rattle.theorem_cutting.proofs.Played.{loaded, asking, words-more, takes-all, begun-all}
 use Rattle.lists.specs.Truth.{never}
 
 -- a session of whole records, that a sound card runs
@@ -49,23 +50,17 @@ unfolding soundWith freshCard secretsOk tablePasses taken
 fresh-sound chip = refl
 
 -- the job's records have 260 bytes each
-sized-one : (r : List ℕ) (rs : List (List ℕ)) → length r ≡ recordSize → Sized recordSize recordSize rs
-    → Sized recordSize recordSize (r ∷ rs)
-sized-one r rs e z = let l : recordSize ≤ length r = omega arith in let m : length r ≤ recordSize =
-    omega arith in more l m z
-
 stored-sized : (cs : List (List ℕ)) → Sized 1 dataRoom cs → Sized recordSize recordSize (storedAll cs)
 unfolding storedAll
 stored-sized [] z = none
 stored-sized (c ∷ []) (more l m z) = sized-one _ _ (length-stored 0x80 c m) none
 stored-sized (c ∷ d ∷ cs) (more l m z) = sized-one _ _ (length-stored 0x00 c m) (stored-sized (d ∷ cs) z)
 
-job-sized : (order : List ℕ) → Sized 1 dataRoom (cutOf order)
-    → Sized recordSize recordSize (jobWith (recordsFor order))
-unfolding jobWith recordsFor installRecord selectRecord
-job-sized order z =
-    sized-one _ _ (record-length _ (lit≤ tt)) (sized-one _ _ (record-length _ (lit≤ tt))
-    (sized-one _ _ (length-stored 0x01 asking (lit≤ tt)) (stored-sized (cutOf order) z)))
+job-sized : {name : List ℕ} {front : List (List ℕ)} → Front name front → (order : List ℕ)
+    → Sized 1 dataRoom (cutOf order) → Sized recordSize recordSize (front ++ recordsFor order)
+unfolding recordsFor
+job-sized f order z = front-sized f _ (sized-one _ _ (length-stored 0x01 asking (lit≤ tt))
+    (stored-sized (cutOf order) z))
 
 -- a chain that ends loaded, where it does not begin so, has a command
 chain-some : {capacity : ℕ} {s s′ : State} {us : List (List ℕ)} → Chain capacity dataRoom s us s′ → ready s ≡ false
@@ -73,43 +68,50 @@ chain-some : {capacity : ℕ} {s s′ : State} {us : List (List ℕ)} → Chain 
 chain-some (done q) f g = absurd (never (sym f ∙ ap ready q ∙ g))
 chain-some (link n m l h e c) f g = omega arith
 
-module _ (chip : Chip) (order : List ℕ) (complete-so : complete (chip .capacity) order ≡ true) where
-  -- the writer's records, played behind INSTALL and SELECT
+module _ {name : List ℕ} {front : List (List ℕ)} (f : Front name front) (chip : Chip) (order : List ℕ)
+    (complete-so : complete (chip .capacity) order ≡ true) where
+  -- the writer's records, played behind a front
   job-played : (a : List ℕ)
-      → runFrom (record { words = []; card = freshCard chip; area = a }) (jobWith (recordsFor order))
-      ≡ runAt (replicate (length (jobWith (recordsFor order))) 0x9000) chip (loaded (uncut (chip .capacity) order))
-  unfolding jobWith recordsFor
+      → runFrom (record { words = []; card = freshCard chip; area = a }) (front ++ recordsFor order)
+      ≡ runAt (replicate (length (front ++ recordsFor order)) 0x9000) chip name (loaded (uncut (chip .capacity) order))
+  unfolding recordsFor
   job-played a =
-      begun-all chip a (storedAll (cutOf order))
-      ∙ takes-all chip chain (chain-some chain not-ready (complete-ready (chip .capacity) order complete-so))
-      (complete-ready (chip .capacity) order complete-so) (replicate 3 0x9000)
-      ∙ ap (λ (n : ℕ). runAt (replicate 3 0x9000 ++ replicate n 0x9000) chip (loaded (uncut (chip .capacity) order)))
-      (sym (length-all (cutOf order)))
+      begun-all f chip a (storedAll (cutOf order))
+      ∙ takes-all chip name chain (chain-some chain not-ready (complete-ready (chip .capacity) order complete-so))
+      (complete-ready (chip .capacity) order complete-so) (replicate (length front) 0x9000 ++ (0x9000 ∷ []))
+      ∙ ap (λ (ws : List ℕ). runAt ws chip name (loaded (uncut (chip .capacity) order)))
+      (words-more (replicate (length front) 0x9000) (length (cutOf order))
+      ∙ replicate-append-replicate (length front) (suc (length (cutOf order))) 0x9000
+      ∙ ap (λ (n : ℕ). replicate n 0x9000) (sym many))
     where
       chain : Chain (chip .capacity) dataRoom challengedState (cutOf order) (uncut (chip .capacity) order)
       chain = cut-chain (chip .capacity) order complete-so
 
+      many : length (front ++ recordsFor order) ≡ length front + suc (length (cutOf order))
+      many = length-append front (recordsFor order) ∙ ap (λ (n : ℕ). length front + n) (length-written order)
+
   -- as a session: the loading part and the file area are those that the uncut walk leaves, with 'A5'
-  pub cut-same-end : (a : List ℕ) (room : ℕ) → length a ≡ areaSize → length (jobWith (recordsFor order)) ≤ room
-      → runOf (freshCard chip) a room (sessionOf (recordsFor order))
+  pub cut-same-end : (a : List ℕ) (room : ℕ) → length a ≡ areaSize → length (front ++ recordsFor order) ≤ room
+      → runOf (freshCard chip) a room (joined (front ++ recordsFor order))
       ≡ record {
         number = 0;
         run = record {
-          words = replicate (length (jobWith (recordsFor order))) 0x9000;
-          card = jobCard chip (changed (withInternal 0xA5) (uncut (chip .capacity) order));
+          words = replicate (length (front ++ recordsFor order)) 0x9000;
+          card = jobCard chip name (changed (withInternal 0xA5) (uncut (chip .capacity) order));
           area = uncut (chip .capacity) order .area;
         };
       }
   cut-same-end a room la l =
-      run-whole-records (freshCard chip) a room (jobWith (recordsFor order)) la (fresh-sound chip)
-      (job-sized order (cut-sized (chip .capacity) order complete-so)) l
+      run-whole-records (freshCard chip) a room (front ++ recordsFor order) la (fresh-sound chip)
+      (job-sized f order (cut-sized (chip .capacity) order complete-so)) l
       ∙ ap (λ (w : Run). record { number = 0; run = w }) (job-played a)
 
--- THE THEOREM: of a complete order, every event answers '9000', and the card ends '07', 'A5'
-pub taken-all : (b a order : List ℕ) (room : ℕ) → chipForm b ≡ true → complete (chipOf b .capacity) order ≡ true
-    → length a ≡ areaSize
-    → length (jobWith (recordsFor order)) ≤ room
-    → Taken (length (jobWith (recordsFor order))) (runOf (freshCard (chipOf b)) a room (sessionOf (recordsFor order)))
-taken-all b a order room form so la l =
-    subst (Taken (length (jobWith (recordsFor order)))) (sym (cut-same-end (chipOf b) order so a room la l))
+-- THE THEOREM: of a complete order, behind any front, every event answers '9000', and the card ends '07', 'A5'
+pub taken-all : {name : List ℕ} {front : List (List ℕ)} → Front name front → (b a order : List ℕ) (room : ℕ)
+    → chipForm b ≡ true → complete (chipOf b .capacity) order ≡ true → length a ≡ areaSize
+    → length (front ++ recordsFor order) ≤ room
+    → Taken (length (front ++ recordsFor order))
+    (runOf (freshCard (chipOf b)) a room (joined (front ++ recordsFor order)))
+taken-all {front} f b a order room form so la l =
+    subst (Taken (length (front ++ recordsFor order))) (sym (cut-same-end f (chipOf b) order so a room la l))
     (record { number = refl; words = refl; gp = refl; internal = refl })

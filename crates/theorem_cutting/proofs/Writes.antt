@@ -1,9 +1,9 @@
 -- What the writer accepts, and that the card takes what it writes: demand 2's return over `writeOf`, `freshOf` and
 -- `runOf`.
 use Prim.Native.Nat.{ℕ, _*_, _≤_}
-use mathlib.Core.Path.{_≡_, refl, ap, subst}
+use mathlib.Core.Path.{_≡_, refl, sym, ap, subst}
 use mathlib.Core.Bool.{Bool, true, false, cond, not}
-use mathlib.Core.List.{List}
+use mathlib.Core.List.{List, _++_}
 use native.Mathlib.Omega.{arith}
 use lib.Dec.{ltb}
 use lib.ListN.{length}
@@ -11,7 +11,8 @@ use borrow.Author.Tests.{le-ltb, ltb-false}
 use Rattle.model.specs.Stored.{chipOf, chipForm, freshCard, recordSize, areaSize}
 use Rattle.model.specs.Session.{freshOf, runOf}
 use Rattle.model.specs.Order.{orderLimit, complete, recordsFor, Writing, noWriting, writeOf}
-use Rattle.theorem_cutting.specs.Job.{jobWith, sessionOf, Taken, Accepted}
+use Rattle.theorem_cutting.specs.Packs.{joined}
+use Rattle.theorem_cutting.specs.Job.{Front, jobWith, Taken, Accepted}
 use Rattle.theorem_cutting.proofs.Commands.{records-few}
 use Rattle.theorem_cutting.proofs.Taken.{taken-all}
 
@@ -72,23 +73,25 @@ pub fresh-form : (b : List ℕ) → chipForm b ≡ true → freshOf b .card ≡ 
 unfolding freshOf
 fresh-form b h = rw h
 
--- DEMAND 2, THE RETURN: whatever the writer cuts for a chip record, a fresh card of that record takes, over any file
--- area
-pub write-taken : (chip a order : List ℕ) (room wordRoom : ℕ) → writeOf chip order room .number ≡ 0
-    → length a ≡ areaSize
-    → length (jobWith (writeOf chip order room .records)) ≤ wordRoom
-    → Taken (length (jobWith (writeOf chip order room .records)))
-    (runOf (freshOf chip .card) a wordRoom (sessionOf (writeOf chip order room .records)))
-write-taken chip a order room wordRoom e la l =
+-- what holds of the records of every order that the writer accepts holds of those that it cuts
+pub by-writing : (P : List (List ℕ) → Type 0) (chip order : List ℕ) (room : ℕ)
+    → (Accepted chip order room → P (recordsFor order)) → writeOf chip order room .number ≡ 0
+    → P (writeOf chip order room .records)
+by-writing P chip order room k e =
     let h : Accepted chip order room = write-only chip order room e in
-    by-records (writeOf chip order room .records) (ap (λ (w : Writing). w .records) (write-all chip order room h)) h l
-  where
-    by-records : (rs : List (List ℕ)) → rs ≡ recordsFor order → Accepted chip order room
-        → length (jobWith rs) ≤ wordRoom
-        → Taken (length (jobWith rs)) (runOf (freshOf chip .card) a wordRoom (sessionOf rs))
-    by-records rs q h k =
-        rw (q, fresh-form chip (h .form)) (taken-all chip a order wordRoom (h .form) (h .complete-so) la
-        (subst (λ (x : List (List ℕ)). length (jobWith x) ≤ wordRoom) q k))
+    subst P (ap (λ (w : Writing). w .records) (sym (write-all chip order room h))) (k h)
+
+-- DEMAND 2, THE RETURN: whatever the writer cuts for a chip record, a fresh card of that record takes, installed and
+-- selected by any front, over any file area
+pub write-taken : {name : List ℕ} {front : List (List ℕ)} → Front name front → (chip a order : List ℕ)
+    (room wordRoom : ℕ) → writeOf chip order room .number ≡ 0 → length a ≡ areaSize
+    → length (front ++ writeOf chip order room .records) ≤ wordRoom
+    → Taken (length (front ++ writeOf chip order room .records))
+    (runOf (freshOf chip .card) a wordRoom (joined (front ++ writeOf chip order room .records)))
+write-taken {front} f chip a order room wordRoom e la =
+    by-writing (λ (rs : List (List ℕ)). length (front ++ rs) ≤ wordRoom
+    → Taken (length (front ++ rs)) (runOf (freshOf chip .card) a wordRoom (joined (front ++ rs)))) chip order room
+    (λ h l. rw (fresh-form chip (h .form)) (taken-all f chip a order wordRoom (h .form) (h .complete-so) la l)) e
 
 -- such a session has at most 47 events
 pub job-few : (capacity : ℕ) (order : List ℕ) → complete capacity order ≡ true → length order ≤ orderLimit

@@ -2,7 +2,7 @@
 use mathlib.Core.Path.{_∙_}
 use native.Mathlib.Omega.{arith}
 use borrow.Author.Needs.{needs}
-use Rattle.theorem_cutting.specs.Job.{installRecord, installData}
+use Rattle.theorem_cutting.specs.Job.{installEvent, installRecord}
 use Rattle.job_session.proofs.Laid.{record-laid}
 use Rattle.job_session.proofs.install_record.Statement.{statement}
 use Rattle.job_session.proofs.install_record.Tie as tie
@@ -10,7 +10,7 @@ use Rattle.job_session.proofs.install_record.Tie as tie
 returns : tie.Need-returns
 unfolding installRecord
 returns c = (
-  c .before .lay .ensures ∙ record-laid (record { kind = 1; p1 = 0x0C; bytes = installData }) (omega arith),
+  c .before .lay .ensures ∙ record-laid installEvent (omega arith),
   search needs,
 )
 

@@ -2,7 +2,7 @@
 use mathlib.Core.Path.{_∙_}
 use native.Mathlib.Omega.{arith}
 use borrow.Author.Needs.{needs}
-use Rattle.theorem_cutting.specs.Job.{selectRecord, instanceName}
+use Rattle.theorem_cutting.specs.Job.{selectEvent, selectRecord}
 use Rattle.job_session.proofs.Laid.{record-laid}
 use Rattle.job_session.proofs.select_record.Statement.{statement}
 use Rattle.job_session.proofs.select_record.Tie as tie
@@ -10,7 +10,7 @@ use Rattle.job_session.proofs.select_record.Tie as tie
 returns : tie.Need-returns
 unfolding selectRecord
 returns c = (
-  c .before .lay .ensures ∙ record-laid (record { kind = 3; p1 = 0x00; bytes = instanceName }) (omega arith),
+  c .before .lay .ensures ∙ record-laid selectEvent (omega arith),
   search needs,
 )
 
