@@ -4,6 +4,7 @@ use Prim.Native.Nat.{ℕ, _≤_}
 use mathlib.Core.Path.{_≡_, ap, sym, _∙_}
 use mathlib.Core.List.{List}
 use lib.ListN.{length}
+use Rattle.lists.specs.Joined.{joined}
 use Rattle.lists.specs.Over.{overwrite, over-none}
 use Rattle.lists.specs.Bytes.{zeros}
 use Rattle.model.specs.declared.Card.{Card}
@@ -21,7 +22,6 @@ use Rattle.theorem_secrecy.specs.Demand.{SecretsStaySecret}
 use Rattle.theorem_secrecy.proofs.Demand as secrecy
 use Rattle.event_replies.specs.Plays.{Plays}
 use Rattle.call_run.specs.Runs.{Runs}
-use Rattle.order_cuts.specs.Cuts.{joined}
 use Rattle.order_complete.specs.Writes.{Writes}
 use Rattle.demands.proofs.Refusals.{Refused, answered-play, told-play, told-run, told-shown, told-fresh}
 use Rattle.demands.proofs.Refusals.{told-write}

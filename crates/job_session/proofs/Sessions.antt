@@ -8,20 +8,19 @@ use lib.Dec.{ltb}
 use lib.ListN.{length, take, drop, length-take, length-drop, length-append}
 use lib.Seq.{drop-drop, drop-at, length-take-le}
 use borrow.Author.Tests.{eq-eqb, ne-eqb}
+use Rattle.lists.specs.Joined.{joined}
 use Rattle.lists.specs.Choice.{by-cond}
 use Rattle.lists.specs.Over.{overwrite, over-none, over-mid, over-part, over-zero, length-over}
 use Rattle.model.specs.declared.Written.{Written}
 use Rattle.model.specs.Stored.{chipOf, chipForm, recordSize}
 use Rattle.model.specs.Order.{orderLimit, complete, recordsFor, Writing, writeOf}
-use Rattle.theorem_cutting.specs.Packs as packs
 use Rattle.theorem_cutting.specs.Job.{installEvent, selectEvent, installRecord, selectRecord, jobWith, sessionOf}
 use Rattle.theorem_cutting.specs.Job.{Accepted}
 use Rattle.theorem_cutting.proofs.Stored.{record-length}
 use Rattle.theorem_cutting.proofs.Commands.{records-few}
 use Rattle.theorem_cutting.proofs.Writes.{write-only, write-all}
-use Rattle.order_cuts.specs.Cuts.{joined}
 use Rattle.order_complete.specs.Writes.{Writes}
-use Rattle.order_writer.proofs.Returns.{records-length, joined-same}
+use Rattle.order_writer.proofs.Returns.{records-length}
 use Rattle.job_session.specs.Laid.{frontSize, sessionWriting, sessionBytes, Lays}
 
 pub install-length : length installRecord ≡ recordSize
@@ -49,18 +48,18 @@ refused-none chip order room =
     (λ h n. absurd (n refl)))))
 
 session-joined : (rs : List (List ℕ)) → sessionOf rs ≡ (installRecord ++ selectRecord) ++ joined rs
-unfolding jobWith packs.joined
-session-joined rs = rw (joined-same rs, append-assoc)
+unfolding jobWith joined
+session-joined rs = rw append-assoc
 
 abbrev writing : List ℕ → List ℕ → List ℕ → Writing
 writing chip order room = sessionWriting chip order (length room)
 
 -- the room as it comes back from the writer, to which a part of it was lent
-abbrev back : ℕ → List ℕ → List ℕ → List ℕ
+abbrev pub back : ℕ → List ℕ → List ℕ → List ℕ
 back f room p = take f room ++ (p ++ drop (length room - f) (drop f room))
 
 -- what lies behind the first two records, whatever was laid over these
-behind-front : (x y room : List ℕ) (f : ℕ) → length x ≡ f → length y ≤ length room - f → f ≤ length room
+pub behind-front : (x y room : List ℕ) (f : ℕ) → length x ≡ f → length y ≤ length room - f → f ≤ length room
     → overwrite (overwrite room f y) 0 x ≡ overwrite room 0 (x ++ y)
 behind-front x y room f e h g =
     let d : drop f (overwrite room f y) ≡ y ++ drop (f + length y) room =

@@ -1,4 +1,5 @@
 // The session of a job, in lent room: INSTALL '0C' and SELECT of the instance, and behind them the writer's records.
+use model::CHIP_SIZE;
 use model::RECORD_SIZE;
 use model::Written;
 ghost use mathlib.Core.Path.{_≡_};
@@ -7,7 +8,7 @@ ghost use Prim.Native.Nat.{_≤_, min};
 ghost use lib.ListN.{length};
 ghost use Rattle.lists.specs.Over.{overwrite};
 ghost use Rattle.theorem_cutting.specs.Job.{installRecord, selectRecord};
-ghost use Rattle.job_session.specs.Laid.{sessionWriting, Lays};
+ghost use Rattle.job_session.specs.Laid.{sessionWriting, Lays, jobWriting, LaysJob};
 
 // How many bytes INSTALL and SELECT take.
 const FRONT_SIZE: usize = 520;
@@ -64,4 +65,30 @@ pub fn lay_session(chip: &[u8], order: &[u8], room: &mut [u8]) -> Written
     }
     lay_front(room);
     written
+}
+
+// The number of a refusal or 0, and how many bytes a job's session takes with the chip record before it.
+pub struct Job {
+    pub number: u8,
+    pub size: usize,
+}
+
+// The chip record and the session of this chip's job, laid from the room's front: what `cut` prints.
+pub fn lay_job(chip: &[u8], order: &[u8], room: &mut [u8]) -> Job
+    ensures { λ r. ⌜ LaysJob (now (chip .entry)) (jobWriting (now (chip .entry)) (now (order .entry))
+        (length (now (room .entry)))) (now (room .entry)) r (now (room .exit)) × (r .size ≤ length (now (room .exit))) ⌝ }
+{
+    let front = memory::least(CHIP_SIZE, room.len());
+    let written = lay_session(chip, order, &mut room[front..]);
+    if written.number != 0 {
+        return Job {
+            number: written.number,
+            size: 0,
+        };
+    }
+    memory::put_bytes(room, 0, chip);
+    Job {
+        number: 0,
+        size: CHIP_SIZE + FRONT_SIZE + written.count * RECORD_SIZE,
+    }
 }

@@ -5,13 +5,12 @@ use mathlib.Core.Bool.{Bool, cond}
 use mathlib.Core.List.{List, _++_}
 use lib.Dec.{ltb}
 use lib.ListN.{length, take, drop}
+use Rattle.lists.specs.Joined.{joined}
 use Rattle.lists.specs.Over.{overwrite}
 use Rattle.model.specs.declared.Written.{Written}
 use Rattle.model.specs.Stored.{recordSize}
 use Rattle.model.specs.Command.{walk}
 use Rattle.model.specs.Order.{challengedState, finished, recordsFor, Writing, noWriting}
-use Rattle.theorem_cutting.specs.Packs as packs
-use Rattle.order_cuts.specs.Cuts.{joined}
 
 -- its number, how many records, and those end to end over the front of the room; all else of the room stays
 pub record Writes (w : Writing) (before : List ℕ) (r : Written) (after : List ℕ) : Type 0 where
@@ -31,4 +30,4 @@ cutFor order room =
 
 -- the session that is made of it: some records, and behind them so many from the front of the room
 unfoldable pub sessionIn : List (List ℕ) → ℕ → List ℕ → List ℕ
-sessionIn front count room = packs.joined front ++ take (count * recordSize) room
+sessionIn front count room = joined front ++ take (count * recordSize) room

@@ -10,11 +10,6 @@ use Rattle.model.specs.Stored.{dataRoom}
 use Rattle.model.specs.Order.{single, unitsIn, packed}
 use Rattle.order_cuts.specs.declared.Place.{Place}
 
--- lists of bytes end to end
-unfoldable pub joined : List (List ℕ) → List ℕ
-joined [] = []
-joined (u ∷ us) = u ++ joined us
-
 -- every unit fits in a command of its own
 pub data Fitting : List (List ℕ) → Type 0 where
   none : Fitting []

@@ -5,12 +5,13 @@ use mathlib.Core.List.{List, [], _∷_, append-nil}
 use native.Mathlib.Nat.{zero-add}
 use native.Mathlib.Omega.{arith}
 use lib.ListN.{length, length-take}
+use Rattle.lists.specs.Joined.{joined}
 use Rattle.lists.specs.Bytes.{part}
 use Rattle.lists.specs.Over.{overwrite, length-over, over-then}
 use Rattle.model.specs.Stored.{recordSize, dataRoom}
 use Rattle.model.specs.Order.{cutOf, stored, storedAll, recordsFor}
 use Rattle.order_cuts.specs.declared.Place.{Place}
-use Rattle.order_cuts.specs.Cuts.{joined, Fitting, unitsFrom, commandsFrom, Command}
+use Rattle.order_cuts.specs.Cuts.{Fitting, unitsFrom, commandsFrom, Command}
 use Rattle.order_cuts.proofs.Commands.{atStart, first-cut, next-cut, none-left}
 use Rattle.model.proofs.Laws.{length-stored}
 

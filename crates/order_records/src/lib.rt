@@ -5,10 +5,11 @@ use order_cuts::Place;
 ghost use mathlib.Core.Path.{_≡_};
 ghost use Prim.Native.Nat.{_+_, _*_, _≤_};
 ghost use lib.ListN.{length};
+ghost use Rattle.lists.specs.Joined.{joined};
 ghost use Rattle.lists.specs.Over.{overwrite};
 ghost use Rattle.model.specs.Stored.{dataRoom, recordSize};
 ghost use Rattle.model.specs.Order.{recordsFor, stored};
-ghost use Rattle.order_cuts.specs.Cuts.{cuttable, joined};
+ghost use Rattle.order_cuts.specs.Cuts.{cuttable};
 
 // A record's bytes before its data: kind, P1, P2, length.
 const FRONT_SIZE: usize = 4;

@@ -6,6 +6,7 @@ use mathlib.Core.List.{List, [], _∷_, _++_}
 use native.Mathlib.Omega.{arith}
 use lib.Seq.{take-at}
 use lib.ListN.{length, take, drop, length-append}
+use Rattle.lists.specs.Joined.{joined}
 use Rattle.lists.specs.Over.{overwrite, over-zero}
 use Rattle.model.specs.declared.Written.{Written}
 use Rattle.model.specs.Stored.{recordSize, dataRoom, areaSize, chipOf}
@@ -17,7 +18,6 @@ use Rattle.theorem_cutting.proofs.Packing.{joined-append}
 use Rattle.theorem_cutting.proofs.Commands.{cut-sized}
 use Rattle.theorem_cutting.proofs.Stored.{record-length}
 use Rattle.theorem_cutting.proofs.Writes.{write-only, write-all, write-taken}
-use Rattle.order_cuts.specs.Cuts.{joined}
 use Rattle.order_complete.specs.Writes.{Writes, sessionIn}
 
 told-one : (n n′ k k′ : ℕ) → n ≡ n′ → k ≡ k′ → _≡_ {A = Written} (record { number = n; count = k })
@@ -56,22 +56,17 @@ records-length capacity order e =
     one-length 0x01 (0x94 ∷ 0x84 ∷ 0x00 ∷ []) (storedAll (cutOf order)) (omega arith)
     (all-length (cutOf order) (cut-sized capacity order e))
 
-pub joined-same : (rs : List (List ℕ)) → packs.joined rs ≡ joined rs
-unfolding packs.joined joined
-joined-same [] = refl
-joined-same (r ∷ rs) = ap (λ (l : List ℕ). r ++ l) (joined-same rs)
-
 -- the records' session, read from the front of the room where they were laid
 session-front : (front rs : List (List ℕ)) (before after : List ℕ) (k : ℕ) → k ≡ length rs
     → length (joined rs) ≡ length rs * recordSize
     → length (joined rs) ≤ length before → after ≡ overwrite before 0 (joined rs)
-    → packs.joined (front ++ rs) ≡ sessionIn front k after
+    → joined (front ++ rs) ≡ sessionIn front k after
 unfolding sessionIn
 session-front front rs before after k e n h f =
     let t : take (k * recordSize) after ≡ joined rs =
     rw (f, over-zero (joined rs) before h) (take-at (joined rs) (drop (length (joined rs)) before) (k * recordSize)
     (rw e n)) in
-    rw (t, joined-append front rs, joined-same rs)
+    rw (t, joined-append front rs)
 
 -- where the writer says 0, a fresh card of that chip record takes any front and what it left in the room: each word
 -- is '9000', and the card ends '07' and 'A5'
@@ -83,7 +78,7 @@ pub written-taken : {name : List ℕ} {front : List (List ℕ)} → Front name f
 written-taken {front} g chip a order before after r wordRoom x e la l =
     subst (λ (b : List ℕ). Taken (length front + r .count) (runOf (freshOf chip .card) a wordRoom b))
     (session-front front rs before after (r .count) (x .count) n m (x .room))
-    (subst (λ (k : ℕ). Taken k (runOf (freshOf chip .card) a wordRoom (packs.joined (front ++ rs)))) j
+    (subst (λ (k : ℕ). Taken k (runOf (freshOf chip .card) a wordRoom (joined (front ++ rs)))) j
     (write-taken g chip a order (length before) wordRoom (sym (x .number) ∙ e) la (rw j l)))
   where
     rs : List (List ℕ)

@@ -8,6 +8,7 @@ use native.Mathlib.Nat.{le-refl}
 use lib.Dec.{eqb, lit≤}
 use lib.ListN.{length, getD, length-replicate, take, drop, length-take, length-drop, drop-of-length-le}
 use lib.Seq.{drop-drop}
+use Rattle.lists.specs.Joined.{joined}
 use Rattle.lists.specs.Bytes.{zeros}
 use Rattle.model.specs.declared.Descriptor.{Descriptor}
 use Rattle.model.specs.declared.Spot.the-variants.{At}
@@ -23,7 +24,6 @@ use Rattle.model.specs.Rules.{Result, went, asked, failed, tagSpot, recordDone,
 use Rattle.model.specs.Command.{walk, ready}
 use Rattle.model.specs.Session.{freshOf, Session, runOf}
 use Rattle.model.specs.Order.{challengedState, finished, complete, recordsFor, writeOf}
-use Rattle.theorem_cutting.specs.Packs.{joined}
 use Rattle.theorem_cutting.specs.Job.{Front, stateOf, uncut}
 use Rattle.theorem_cutting.specs.Contents.{Grouped, groupedIn, ssnnOf, valuesOf, Each, Contents}
 use Rattle.theorem_cutting.proofs.Heads.{Long, header-long}

@@ -10,13 +10,14 @@ use lib.Dec.{leb}
 use lib.ListN.{length, take, drop, length-append, length-drop, take-append-drop}
 use lib.Seq.{take-add}
 use borrow.Author.Tests.{leb-false}
+use Rattle.lists.specs.Joined.{joined}
 use Rattle.model.specs.declared.Head.{Head}
 use Rattle.model.specs.declared.Header.{Header}
 use Rattle.model.specs.declared.Header.the-variants.{Torn, Whole}
 use Rattle.model.specs.Stored.{dataRoom}
 use Rattle.model.specs.Header.{headerOf}
 use Rattle.model.specs.Order.{spannable, single, groupingUnits, unitsBy, unitsIn, packed, cutOf}
-use Rattle.theorem_cutting.specs.Packs.{joined, Packs, last, next, longestUnit, Sized, more}
+use Rattle.theorem_cutting.specs.Packs.{Packs, last, next, longestUnit, Sized, more}
 use Rattle.theorem_cutting.proofs.Heads.{Long, header-long}
 
 pub joined-append : (us vs : List (List ℕ)) → joined (us ++ vs) ≡ joined us ++ joined vs

@@ -6,6 +6,7 @@ use mathlib.Core.List.{List, [], _∷_, map}
 use native.Mathlib.Omega.{arith}
 use lib.ListN.{length, length-append, length-replicate}
 use lib.Seq.{take-append-seam, drop-append-seam, take-at, drop-at}
+use Rattle.lists.specs.Joined.{joined}
 use Rattle.lists.specs.Bytes.{byteAt, zeros, zeros-zero}
 use Rattle.model.specs.declared.Card.{Card}
 use Rattle.model.specs.Stored.{Event, eventIn, isKind, paddedZero, recordOf, recordSize, dataRoom}
@@ -13,7 +14,7 @@ use Rattle.model.specs.Events.{event}
 use Rattle.model.specs.Session.{replied, turnOf, recordsIn}
 use Rattle.model.specs.Order.{cutOf, stored, storedAll, recordsFor}
 use Rattle.theorem_cutting.specs.Job.{dataIn}
-use Rattle.theorem_cutting.specs.Packs.{joined, Sized, more}
+use Rattle.theorem_cutting.specs.Packs.{Sized, more}
 
 pub record-length : (e : Event) → length (e .bytes) ≤ dataRoom → length (recordOf e) ≡ recordSize
 unfolding recordOf

@@ -7,6 +7,7 @@ use native.Mathlib.Omega.{arith}
 use lib.Dec.{lit≤}
 use lib.ListN.{length, replicate, length-append, replicate-append-replicate}
 use borrow.Author.Tests.{eq-eqb, le-ltb}
+use Rattle.lists.specs.Joined.{joined}
 use Rattle.model.specs.declared.Chip.{Chip}
 use Rattle.model.specs.declared.Card.{Card}
 use Rattle.model.specs.Stored.{chipOf, chipForm, freshCard, recordSize, dataRoom, areaSize}
@@ -17,7 +18,7 @@ use Rattle.model.specs.Command.{ready}
 use Rattle.model.specs.Sound.{sound, soundWith, secretsOk}
 use Rattle.model.specs.Session.{Run, runFrom, eventsIn, runOf}
 use Rattle.model.specs.Order.{challengedState, complete, cutOf, storedAll, recordsFor}
-use Rattle.theorem_cutting.specs.Packs.{joined, Sized, none, more}
+use Rattle.theorem_cutting.specs.Packs.{Sized, none, more}
 use Rattle.theorem_cutting.specs.Job.{Front, jobCard, uncut, Taken}
 use Rattle.theorem_cutting.proofs.Units.{Chain, done, link}
 use Rattle.theorem_cutting.proofs.Fronts.{runAt, front-sized}

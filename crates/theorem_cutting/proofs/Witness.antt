@@ -5,6 +5,7 @@ use mathlib.Core.Bool.{Bool, _&&_}
 use mathlib.Core.List.{List, [], _∷_, _++_, map}
 use lib.Dec.{T, eqb, lit≤}
 use lib.ListN.{length, replicate}
+use Rattle.lists.specs.Joined.{joined}
 use Rattle.lists.specs.Bytes.{same, part, zeros}
 use Rattle.model.specs.Stored.{areaSize}
 use Rattle.model.specs.Events.{nameOf}
@@ -12,7 +13,6 @@ use Rattle.model.specs.Session.{freshOf, runOf}
 use Rattle.model.specs.Order.{complete, cutOf, recordsFor}
 use Rattle.model.proofs.Computed.{computed}
 use Rattle.model.proofs.Scenes.{chip, df, ef, linear, loaded}
-use Rattle.theorem_cutting.specs.Packs.{joined}
 use Rattle.theorem_cutting.specs.Job.{uncut, Front, atOnce, inTwo}
 use Rattle.theorem_cutting.specs.Contents.{Grouped, groupedIn, ssnnOf, valuesOf}
 

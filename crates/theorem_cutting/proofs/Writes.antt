@@ -8,10 +8,10 @@ use native.Mathlib.Omega.{arith}
 use lib.Dec.{ltb}
 use lib.ListN.{length}
 use borrow.Author.Tests.{le-ltb, ltb-false}
+use Rattle.lists.specs.Joined.{joined}
 use Rattle.model.specs.Stored.{chipOf, chipForm, freshCard, recordSize, areaSize}
 use Rattle.model.specs.Session.{freshOf, runOf}
 use Rattle.model.specs.Order.{orderLimit, complete, recordsFor, Writing, noWriting, writeOf}
-use Rattle.theorem_cutting.specs.Packs.{joined}
 use Rattle.theorem_cutting.specs.Job.{Front, jobWith, Taken, Accepted}
 use Rattle.theorem_cutting.proofs.Commands.{records-few}
 use Rattle.theorem_cutting.proofs.Taken.{taken-all}

@@ -4,6 +4,7 @@ use mathlib.Core.Path.{_≡_}
 use mathlib.Core.Bool.{Bool, true}
 use mathlib.Core.List.{List, [], _∷_, _++_}
 use lib.ListN.{length, replicate}
+use Rattle.lists.specs.Joined.{joined}
 use Rattle.lists.specs.Bytes.{padded}
 use Rattle.model.specs.declared.Card.{Card}
 use Rattle.model.specs.declared.Chip.{Chip}
@@ -14,7 +15,6 @@ use Rattle.model.specs.Rules.{Result, went, asked, failed}
 use Rattle.model.specs.Command.{walk}
 use Rattle.model.specs.Session.{Session}
 use Rattle.model.specs.Order.{orderLimit, challengedState, complete, recordsFor}
-use Rattle.theorem_cutting.specs.Packs.{joined}
 
 -- the data of a record
 abbrev pub dataIn : List ℕ → List ℕ

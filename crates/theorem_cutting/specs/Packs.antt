@@ -3,12 +3,8 @@ use Prim.Native.Nat.{ℕ, _+_, _≤_, _<_}
 use mathlib.Core.Path.{_≡_}
 use mathlib.Core.List.{List, [], _∷_, _++_}
 use lib.ListN.{length}
+use Rattle.lists.specs.Joined.{joined}
 use Rattle.model.specs.Stored.{dataRoom}
-
--- lists of bytes joined
-unfoldable pub joined : List (List ℕ) → List ℕ
-joined [] = []
-joined (u ∷ us) = u ++ joined us
 
 -- `Packs us cs`: the commands `cs` hold the units `us`, in order, each unit whole in one command; and where a command
 -- has another behind it, the first unit of that one does not fit

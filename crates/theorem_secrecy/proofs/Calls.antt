@@ -8,6 +8,7 @@ use lib.Dec.{eqb, ltb}
 use lib.ListN.{length, take, drop, length-append, length-drop}
 use lib.Seq.{take-at, drop-at, length-take-le}
 use borrow.Author.Tests.{eqb-true}
+use Rattle.lists.specs.Joined.{joined}
 use Rattle.lists.specs.Choice.{by-cond}
 use Rattle.model.specs.declared.Chip.{Chip}
 use Rattle.model.specs.declared.Card.{Card}
@@ -15,7 +16,7 @@ use Rattle.model.specs.Stored.{freshCard, recordSize, areaSize}
 use Rattle.model.specs.Sound.{sound}
 use Rattle.model.specs.Session.{turnOf, recordsIn, runFrom, Session, noRun, eventsIn, runOf}
 use Rattle.theorem_secrecy.specs.View.{Hiding, every, marksIn, viewRecord, inSession, oneByOne, viewsFrom}
-use Rattle.theorem_secrecy.specs.View.{joined, viewOf}
+use Rattle.theorem_secrecy.specs.View.{viewOf}
 use Rattle.theorem_secrecy.specs.Veil.{veil, veilSession}
 use Rattle.theorem_secrecy.specs.Alike.{AlikeTurns, AlikeCalls, turnAt, start}
 use Rattle.theorem_secrecy.proofs.Marks.{length-view}

@@ -6,6 +6,7 @@ use mathlib.Core.Bool.{Bool, true, false, cond, not, _&&_, _||_}
 use mathlib.Core.List.{List, [], _∷_, _++_}
 use lib.Dec.{eqb, ltb, leb}
 use lib.ListN.{length, getD, take, drop, replicate}
+use Rattle.lists.specs.Joined.{joined}
 use Rattle.lists.specs.Bytes.{byteAt, part, zeros}
 use Rattle.model.specs.declared.Open.{Open}
 use Rattle.model.specs.declared.Open.the-variants.{Shut, Table, Record}
@@ -156,10 +157,6 @@ abbrev pub recordsOf : List ℕ → List (List ℕ)
 recordsOf bytes = recordsIn (eventsIn bytes) bytes
 
 -- a session's bytes: nothing is hidden of a session that is refused
-unfoldable pub joined : List (List ℕ) → List ℕ
-joined [] = []
-joined (r ∷ rs) = r ++ joined rs
-
 unfoldable pub viewOf : Hiding → Card → List ℕ → ℕ → List ℕ → List ℕ
 viewOf z c a room bytes =
     cond (eqb (runOf c a room bytes .number) 0) (joined (viewsFrom z inSession c a (recordsOf bytes))) bytes

@@ -1,6 +1,6 @@
 -- `order_writer::refused_by`: no records end to end are no bytes, and these change no room (`over-none`).
 use mathlib.Core.Path.{refl, sym}
-use Rattle.order_cuts.specs.Cuts.{joined}
+use Rattle.lists.specs.Joined.{joined}
 use Rattle.lists.specs.Over.{over-none}
 use Rattle.order_writer.proofs.refused_by.Statement.{statement}
 use Rattle.order_writer.proofs.refused_by.Tie as tie
