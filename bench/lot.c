@@ -143,7 +143,7 @@ static void begin(void)
     static const u8 install[] = "\x08" "1TIC.PKG" "\x08" "1TIC.MOD" "\x08" "1TIC.ICA" "\x01\x00\x02\xC9\x00";
     chip();
     record(1, 0x0C, install, sizeof install);
-    record(3, 0x00, name, 8);
+    record(3, 0x04, name, 8);
     record(2, 0x01, "\x94\x84", 3);
 }
 

@@ -1430,7 +1430,7 @@ static void see_cut(u32 i, const u8 *records, u32 count)
     memcpy(name, "1TIC.ICA", 8);
     name_length = 8;
     add_install(0x0C);
-    add_event(SELECT, 0, name, 8);
+    add_event(SELECT, 4, name, 8);
     if (run(&c, area, AREA, record_at(0), 2 * RECORD, words, 2).number != 0)
         broken("INSTALL and SELECT", i);
     if (run(&c, area, AREA, records, count * RECORD, words, MAX_EVENTS).number != 0 || c.internal != 0xA5)

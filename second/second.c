@@ -9,7 +9,7 @@
  *  - replay and trace start from a fresh card and change it only by event(), so they don't ask sound() again
  *    at each event; play() and run() do, as the paper orders. The generator checks that sound() stays true.
  *  - run() asks sound() once, before the first record.
- *  - cut: SELECT's P1 and P2 and INSTALL's P2 are '00'. It reads no further than byte 8,193 of an order.
+ *  - cut: SELECT's P1 is '04', by name; its P2 and INSTALL's are '00'. It reads no further than byte 8,193 of an order.
  *  - cut's refusal line: "cut: refused NN: meaning", NN in two decimal digits.
  *  - replay and trace of a refused chip record end with status 0: the line printed is the result.
  *  - groupings streams: one pull never needs more than 65,539 bytes, so that many are kept ready.
@@ -1350,7 +1350,7 @@ struct ran cut_job(const u8 *job, u32 length, u8 *room)
     if (done.number != 0)
         return done;
     set_record(room, INSTALL, 0x0C, names, 33);
-    set_record(room + RECORD, SELECT, 0x00, names + 19, 8);
+    set_record(room + RECORD, SELECT, 0x04, names + 19, 8);
     done.records += 2;
     return done;
 }

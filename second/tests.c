@@ -440,7 +440,7 @@ static void cut_and_groupings(void)
     expect(m.status == 0 && m.length == CHIP + 4 * RECORD && memcmp(m.bytes, job, CHIP) == 0, "cut: its size");
     expect(same(m.bytes + CHIP, 37, "01 0C 00 21 08 315449432E504B47 08 315449432E4D4F44 08 315449432E494341"
                                     "010002C90000"), "cut: INSTALL");
-    expect(same(m.bytes + CHIP + RECORD, 12, "03 00 00 08 315449432E494341"), "cut: SELECT");
+    expect(same(m.bytes + CHIP + RECORD, 12, "03 04 00 08 315449432E494341"), "cut: SELECT");
     expect(same(m.bytes + CHIP + 2 * RECORD, 7, "02 01 00 03 948400"), "cut: 9484");
     run_child("replay", m.bytes, m.length, &n);
     expect(wrote(&n, "00001 01 00 9000 07 CC 00\n00002 03 00 9000 07 CC 00\n00003 02 00 9000 07 CC 01\n"

@@ -2,33 +2,27 @@
 // INSTALL '0C', SELECT, and the writer's records. A refusal writes one line to standard error alone.
 ghost use mathlib.Core.Path.{_≡_};
 ghost use lib.ListN.{length};
-ghost use Prim.Native.Nat.{_≤_};
 
-// INSTALL and SELECT stand before the writer's records.
-const FIRST_RECORDS: usize = 2;
-
-fn print(chip: &[u8], records: &[u8], count: usize) -> u8
-    requires { ⌜ (length (now records) ≡ 12220) × (count ≤ 45) ⌝ }
+// The chip record, and the longest session of a complete order: 47 records.
+fn job_room() -> [u8; 12260]
+    ensures { λ r. ⌜ 12260 ≡ length r ⌝ }
 {
-    let size = (count + FIRST_RECORDS) * model::RECORD_SIZE;
-    if io_edge::print(b"cut: standard output", chip) {
-        if io_edge::print(b"cut: standard output", &records[..size]) {
-            return io_edge::DONE;
-        }
-    }
-    io_edge::NOT_DONE
+    [0u8; 12260]
 }
 
 // A job's session, or its refusal. `lines` are those of its text, none where it is no text.
 fn cut(label: &[u8], job: &[u8], lines: &[u32]) -> u8 {
     let end = io_intake::chip_end(job);
-    let mut room = io_intake::record_buffer();
-    let written = job_session::lay_session(&job[..end], &job[end..], &mut room);
-    if written.number != 0 {
-        io_intake::say_refused(label, written.number, job, lines);
+    let mut room = job_room();
+    let laid = job_session::lay_job(&job[..end], &job[end..], &mut room);
+    if laid.number != 0 {
+        io_intake::say_refused(label, laid.number, job, lines);
         return io_edge::REFUSED;
     }
-    print(&job[..end], &room, written.count)
+    if io_edge::print(b"cut: standard output", &room[..laid.size]) {
+        return io_edge::DONE;
+    }
+    io_edge::NOT_DONE
 }
 
 fn run(label: &[u8], fd: i32, is_text: bool) -> u8 {

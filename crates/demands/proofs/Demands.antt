@@ -1,10 +1,12 @@
 -- THE DEMANDS, each under its own words, as theorems over the names that the contracts of the calls cite. Who doubts
 -- reads this page and the definition (crates/model/specs), and nothing else.
-use Prim.Native.Nat.{ℕ, _≤_}
+use Prim.Native.Nat.{ℕ, _+_, _≤_}
 use mathlib.Core.Path.{_≡_, ap, sym, _∙_}
-use mathlib.Core.List.{List}
+use mathlib.Core.Bool.{false}
+use mathlib.Core.List.{List, _++_}
 use lib.ListN.{length}
 use Rattle.lists.specs.Joined.{joined}
+use Rattle.lists.specs.Truth.{never}
 use Rattle.lists.specs.Over.{overwrite, over-none}
 use Rattle.lists.specs.Bytes.{zeros}
 use Rattle.model.specs.declared.Card.{Card}
@@ -13,16 +15,22 @@ use Rattle.model.specs.declared.Played.{Played}
 use Rattle.model.specs.declared.Ran.{Ran}
 use Rattle.model.specs.declared.Shown.{Shown}
 use Rattle.model.specs.declared.Written.{Written}
-use Rattle.model.specs.Stored.{chipSize, chipOf, freshCard, eventIn}
+use Rattle.model.specs.Stored.{chipSize, chipOf, freshCard, eventIn, areaSize}
+use Rattle.model.specs.Loads.{fileList}
 use Rattle.model.specs.Events.{event}
 use Rattle.model.specs.Session.{Turn, Session, freshOf, playOf, runOf, shownOf}
-use Rattle.model.specs.Order.{Writing, writeOf}
+use Rattle.model.specs.Order.{complete, recordsFor, Writing, writeOf}
+use Rattle.theorem_cutting.specs.Job.{Front, Taken, Accepted}
+use Rattle.theorem_cutting.specs.Contents.{Contents, valuesOf}
+use Rattle.theorem_cutting.proofs.Writes.{write-only, write-all}
+use Rattle.theorem_cutting.proofs.Files.{write-contents}
 use Rattle.theorem_secrecy.specs.View.{Hiding}
 use Rattle.theorem_secrecy.specs.Demand.{SecretsStaySecret}
 use Rattle.theorem_secrecy.proofs.Demand as secrecy
 use Rattle.event_replies.specs.Plays.{Plays}
 use Rattle.call_run.specs.Runs.{Runs}
-use Rattle.order_complete.specs.Writes.{Writes}
+use Rattle.order_complete.specs.Writes.{Writes, sessionIn}
+use Rattle.order_writer.proofs.Returns.{written-taken}
 use Rattle.demands.proofs.Refusals.{Refused, answered-play, told-play, told-run, told-shown, told-fresh}
 use Rattle.demands.proofs.Refusals.{told-write}
 
@@ -97,6 +105,37 @@ event-as-defined c area answer r area′ answer′ x p h =
       p .counts ∙ ap (λ (t : Turn). length (t .answer)) q,
       p .writes ∙ ap (λ (t : Turn). overwrite answer 0 (t .answer)) q,
     )
+
+-- "In return, each complete order of at most 8,192 bytes is cut into commands, given room, and a freshly installed and
+-- selected card of that chip takes them all and ends PERSONALIZED." Installed and selected: by INSTALL '0C', or '04' and
+-- '08', and SELECT, for every name of 5 to 16 bytes (`Front`). "An order that isn't complete is refused."
+
+pub cut-is-taken : {name : List ℕ} {front : List (List ℕ)} → Front name front
+    → (chip area order room room′ : List ℕ) (x : Written) (wordRoom : ℕ)
+    → Writes (writeOf chip order (length room)) room x room′
+    → Accepted chip order (length room) → length area ≡ areaSize → length front + x .count ≤ wordRoom
+    → (x .number ≡ 0)
+    × Taken (length front + x .count) (runOf (freshOf chip .card) area wordRoom (sessionIn front (x .count) room′))
+cut-is-taken f chip area order room room′ x wordRoom w h a l =
+    let n = w .number ∙ ap (λ (y : Writing). y .number) (write-all chip order (length room) h) in
+    (n, written-taken f chip area order room room′ x wordRoom w n a l)
+
+-- its files then hold what the order says: each value in its record, and zeros elsewhere
+pub files-are-filled : {name : List ℕ} {front : List (List ℕ)} → Front name front
+    → (chip area order : List ℕ) (room wordRoom : ℕ)
+    → Accepted chip order room → length area ≡ areaSize → length (front ++ recordsFor order) ≤ wordRoom
+    → let x = runOf (freshOf chip .card) area wordRoom (joined (front ++ recordsFor order)) in
+    Contents (fileList (x .run .card .loading)) (valuesOf order) (x .run .area)
+files-are-filled f chip area order room wordRoom h a l =
+    let e = ap (λ (y : Writing). y .records) (write-all chip order room h) in
+    rw e at (write-contents f chip area order room wordRoom (ap (λ (y : Writing). y .number) (write-all chip order room h))
+    a (rw e l))
+
+pub incomplete-refused : (chip order room room′ : List ℕ) (x : Written)
+    → Writes (writeOf chip order (length room)) room x room′ → complete (chipOf chip .capacity) order ≡ false
+    → Refused (x .number)
+incomplete-refused chip order room room′ x w e n =
+    never (sym e ∙ write-only chip order (length room) (sym (w .number) ∙ n) .complete-so)
 
 -- 3. "Secrets stay secret. Two sessions from fresh cards of one chip, equal file areas, alike but for value bytes inside
 -- activation, key or PIN groupings that pass all their checks: event by event every word, answer, state, table entry,

@@ -23,7 +23,7 @@ chip-length chip e = eqb-true (length chip) chipSize (and-l _ _ e)
 module _ (chip order room : List ℕ) (f : ℕ) (e : f ≡ min chipSize (length room)) (r : Written) (p : List ℕ)
     (lays : Lays (sessionWriting chip order (length (take (length room - f) (drop f room))))
     (take (length room - f) (drop f room)) r p) where
-  w : Writing
+  abbrev pub w : Writing
   w = jobWriting chip order (length room)
 
   lays-so : Lays w (take (length room - f) (drop f room)) r p
