@@ -79,16 +79,16 @@ pub fn lay_job(chip: &[u8], order: &[u8], room: &mut [u8]) -> Job
         (length (now (room .entry)))) (now (room .entry)) r (now (room .exit)) × (r .size ≤ length (now (room .exit))) ⌝ }
 {
     let front = memory::least(CHIP_SIZE, room.len());
-    let written = lay_session(chip, order, &mut room[front..]);
-    if written.number != 0 {
+    let session = lay_session(chip, order, &mut room[front..]);
+    if session.number != 0 {
         return Job {
-            number: written.number,
+            number: session.number,
             size: 0,
         };
     }
     memory::put_bytes(room, 0, chip);
     Job {
         number: 0,
-        size: CHIP_SIZE + FRONT_SIZE + written.count * RECORD_SIZE,
+        size: CHIP_SIZE + FRONT_SIZE + session.count * RECORD_SIZE,
     }
 }
