@@ -2,12 +2,16 @@
 use Prim.Native.Nat.{ℕ}
 use mathlib.Core.Path.{_≡_, sym, _∙_}
 use mathlib.Core.List.{List}
+use denote.Ref.{now}
 use Rattle.model.specs.declared.Card.{Card}
 use Rattle.model.specs.declared.Played.{Played}
 use Rattle.model.specs.declared.Ran.{Ran}
 use Rattle.model.specs.Rows.{takenOf}
 use Rattle.model.specs.declared.Shown.{Shown}
 use Rattle.model.specs.Session.{Turn, Session, shownOf, partShown}
+use Rattle.order_reader.specs.declared.Reader.{Reader}
+use Rattle.order_reader.specs.declared.Drawn.{Drawn}
+use Rattle.order_reader.specs.Reads.{foundAt, valueOf}
 use Rattle.event_replies.specs.Plays.{Plays}
 use Rattle.call_run.specs.Runs.{Runs}
 
@@ -37,6 +41,17 @@ shown-single c a sfi nn s s′ p q = p ∙ sym q
 pub part-single : (a : List ℕ) (s : Shown) (bytes bytes′ : List ℕ) → bytes ≡ partShown a s → bytes′ ≡ partShown a s
     → bytes ≡ bytes′
 part-single a s bytes bytes′ p q = p ∙ sym q
+
+-- a pull: what was found and where, the value's bytes, the reader of the rest
+abbrev Pulls : Reader → Drawn → Type 0
+Pulls r p =
+    (p .found ≡ foundAt (now (r .order)) (r .at))
+    × (now (p .value) ≡ valueOf (now (r .order)) (foundAt (now (r .order)) (r .at)))
+    × (p .rest .order ≡ r .order) × (p .rest .at ≡ foundAt (now (r .order)) (r .at) .next)
+
+pub pull-single : (r : Reader) (p p′ : Drawn) → Pulls r p → Pulls r p′
+    → (p .found ≡ p′ .found) × (now (p .value) ≡ now (p′ .value)) × (p .rest ≡ p′ .rest)
+pull-single r p p′ x y = (x .0 ∙ sym (y .0), x .1 ∙ sym (y .1), rw (x .2, x .3, y .2, y .3))
 
 -- the number of rows
 pub taken-single : (c : Card) (n n′ : ℕ) → n ≡ takenOf (c .loading .running .rows)
