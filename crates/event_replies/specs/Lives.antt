@@ -6,7 +6,7 @@ use lib.Dec.{eqb}
 use Rattle.model.specs.declared.Life.{Life}
 use Rattle.model.specs.declared.Loading.{Loading}
 use Rattle.model.specs.declared.Card.{Card}
-use Rattle.model.specs.Loads.{withNoneOpen}
+use Rattle.model.specs.Loads.{withDropped}
 use Rattle.model.specs.Events.{withLife, withLoading}
 use Rattle.event_replies.specs.declared.Replied.{Replied}
 
@@ -20,7 +20,7 @@ commandFor kind d c n = isCommand kind n (c .life .gp) (c .loading .running .int
 
 -- a card that locks drops an open value
 abbrev pub dropped : Bool → Card → Card
-dropped locks c = cond locks (withLoading (withNoneOpen (c .loading)) c) c
+dropped locks c = cond locks (withLoading (withDropped (c .loading)) c) c
 
 abbrev pub livedAs : Card → Replied → Card
 livedAs c x = withLife (x .life) (dropped (x .locks) c)

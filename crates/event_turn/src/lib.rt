@@ -27,10 +27,13 @@ ghost use Rattle.event_turn.specs.Told.{endAnswer};
 fn settled_card(mut c: Card, mut load: Loading, x: Said) -> Card
     ensures { λ r. ⌜ r ≡ settledCard x c load ⌝ }
 {
+    let p = load.running;
     let running = x.running;
     load.running = running;
     if x.locks {
-        load.held = [0u8; 18];
+        let held = load.held;
+        let left = walk_course::held_dropped(p, held);
+        load.held = left;
         let mut life = c.life;
         life.gp = 0x87;
         life.selected = false;
@@ -50,9 +53,11 @@ fn lived_card(mut c: Card, x: Replied) -> Card
     c.life = life;
     if x.locks {
         let mut load = c.loading;
+        let held = load.held;
+        let left = walk_course::held_dropped(load.running, held);
+        load.held = left;
         let running = walk_course::with_open(load.running, Open::Shut);
         load.running = running;
-        load.held = [0u8; 18];
         c.loading = load;
         return c;
     }

@@ -1,15 +1,18 @@
 -- Values left open over commands, computed: '3100' and 'ssnn' begun, continued, ended and dropped, each with the whole
 -- card and the file area after it.
 use Prim.Native.Nat.{ℕ, _-_}
+use mathlib.Core.Path.{_≡_, refl, sym, subst}
 use mathlib.Core.Bool.{Bool, true, false, _&&_}
 use mathlib.Core.List.{List, [], _∷_, _++_}
 use lib.Dec.{T, eqb}
-use lib.ListN.{take, drop}
+use lib.ListN.{take, drop, replicate}
 use Rattle.lists.specs.Bytes.{same, zeros}
 use Rattle.model.specs.declared.Open.{Open}
 use Rattle.model.specs.declared.Open.the-variants.{Shut, Table, Record}
+use Rattle.model.specs.declared.Loading.{Loading}
 use Rattle.model.specs.declared.Card.{Card}
 use Rattle.model.specs.Stored.{Event}
+use Rattle.model.specs.Loads.{withOpen, heldDropped, withDropped}
 use Rattle.model.specs.Events as Said
 use Rattle.model.proofs.Scenes.{Bytes, event, name, df, ef, linear}
 use Rattle.model.proofs.Tables.{every, rising, but, cardNumbers, tabled}
@@ -25,8 +28,12 @@ makes c a e w d b =
 abbrev pub going : ℕ → ℕ → Open → Bytes → List Bytes → Card
 going rows last o held files = cardOf (lifeIn 0x07 true) (loadingOf (runningOf 0x5A rows last o) held files)
 
+abbrev pub stoppedWith : Bytes → ℕ → ℕ → List Bytes → Card
+stoppedWith held rows last files =
+    cardOf (lifeIn 0x87 false) (loadingOf (runningOf 0x5A rows last Shut) held files)
+
 abbrev pub stopped : ℕ → ℕ → List Bytes → Card
-stopped rows last files = cardOf (lifeIn 0x87 false) (loadingOf (runningOf 0x5A rows last Shut) (zeros 18) files)
+stopped rows last files = stoppedWith (zeros 18) rows last files
 
 -- '3100' after '2100', on an area that stays
 abbrev pub area : Bytes
@@ -126,6 +133,34 @@ records =
     ∷ makes (with 0x1F7 0 (Record 0x0802 1 3)) area (event 8 0 []) 0x6985 (stopped 0x1F7 0 files) area
     ∷ []
 
+-- an event that locks a card with held bytes '5A', and those after it: a card may be lent so, nothing open
+abbrev pub full : Bytes
+full = replicate 18 0x5A
+
+abbrev pub holds : Open → Event → ℕ → Bytes → Bool
+holds o e w h = makes (going 0x1E7 0 o full files) area e w (stoppedWith h 0x1E7 0 files) area
+
+unfoldable pub locks : List Bool
+locks =
+    -- with nothing open they stay, whatever locks: another kind, an empty command, an unknown tag, a query with bit 8
+    holds Shut (event 3 0 name) 0x6283 full ∷ holds Shut (event 5 0 []) 0x0000 full
+    ∷ holds Shut (event 2 0 []) 0x6700 full ∷ holds Shut (event 2 0 (0x50 ∷ 0x00 ∷ 0x00 ∷ [])) 0x6A88 full
+    ∷ holds Shut (event 2 0x81 (0x84 ∷ 0xF2 ∷ 0x00 ∷ [])) 0x6A86 full
+    -- a value that has ended is not dropped by a later error
+    ∷ makes (going 0x1F7 0 (Record 0x0802 3 1) full files) area (event 2 0 (0xB4 ∷ 0x50 ∷ 0x00 ∷ 0x00 ∷ [])) 0x6A88
+    (stoppedWith full 0x5F7 0x0802 files) (but 11 0xB4 area)
+    -- an open '3100' and an open 'ssnn' are dropped, and the held bytes are zero
+    ∷ holds (Table 2 16) (event 3 0 name) 0x6283 (zeros 18) ∷ holds (Table 2 16) (event 2 0 []) 0x6700 (zeros 18)
+    ∷ holds (Table 2 16) (event 2 0x80 (0x3F ∷ [])) 0x6985 (zeros 18)
+    ∷ holds (Record 0x0802 1 3) (event 3 0 name) 0x6283 (zeros 18)
+    ∷ holds (Record 0x0802 1 3) (event 2 0 []) 0x6700 (zeros 18)
+    ∷ []
+
+-- and of every loading part with nothing open a lock changes nothing
+pub nothing-dropped : (l : Loading) → l .running .pending ≡ Shut → withDropped l ≡ l
+nothing-dropped l e =
+    subst (λ (o : Open). withOpen Shut (heldDropped o (l .held)) l ≡ withOpen o (l .held) l) (sym e) refl
+
 -- the end asked or not behind the last byte of an open value, row 11 taken already: the internal state that it reaches
 abbrev pub reaches : ℕ → ℕ → ℕ → Bool
 reaches rows p1 i =
@@ -152,6 +187,10 @@ tables-right = tt
 pub records-right : T (every records)
 unfolding carded records
 records-right = tt
+
+pub locks-right : T (every locks)
+unfolding carded locks
+locks-right = tt
 
 pub ends-right : T (every ends)
 unfolding carded ends

@@ -11,7 +11,7 @@ use Rattle.model.specs.declared.Life.{Life}
 use Rattle.model.specs.declared.Loading.{Loading}
 use Rattle.model.specs.declared.Card.{Card}
 use Rattle.model.specs.Stored.{Event, areaSize, noFile}
-use Rattle.model.specs.Loads.{State, withNoneOpen}
+use Rattle.model.specs.Loads.{State, withDropped}
 use Rattle.model.specs.Rules.{Result, went, asked, failed}
 use Rattle.model.specs.Command.{command}
 
@@ -33,7 +33,7 @@ withLoading l c = record { chip = c .chip; life = c .life; loading = l }
 
 -- "Locking sets '87', clears "selected" and drops an open value; all else stays."
 abbrev pub locked : Card → Card
-locked c = withLoading (withNoneOpen (c .loading)) (withGp 0x87 false c)
+locked c = withLoading (withDropped (c .loading)) (withGp 0x87 false c)
 
 -- a word with no answer bytes
 abbrev pub says : ℕ → Card → List ℕ → Reply

@@ -6,7 +6,7 @@ use Rattle.lists.specs.Bytes.{zeros}
 use Rattle.model.specs.declared.Descriptor.{Descriptor}
 use Rattle.model.specs.declared.Secret.{Secret}
 use Rattle.model.specs.declared.Open.{Open}
-use Rattle.model.specs.declared.Open.the-variants.{Shut}
+use Rattle.model.specs.declared.Open.the-variants.{Shut, Table, Record}
 use Rattle.model.specs.declared.Running.{Running}
 use Rattle.model.specs.declared.Loading.{Loading}
 use Rattle.model.specs.Rows.{withRow}
@@ -62,6 +62,15 @@ withOpen o h l = withProgress (runningOpen o (l .running)) h l
 -- nothing open, and no byte held
 abbrev pub withNoneOpen : Loading → Loading
 withNoneOpen l = withOpen Shut (zeros 18) l
+
+-- "drops an open value; all else stays": the held bytes go with the value, and with nothing open they stay
+abbrev pub heldDropped : Open → List ℕ → List ℕ
+heldDropped Shut h = h
+heldDropped (Table held missing) h = zeros 18
+heldDropped (Record tag written missing) h = zeros 18
+
+abbrev pub withDropped : Loading → Loading
+withDropped l = withOpen Shut (heldDropped (l .running .pending) (l .held)) l
 
 abbrev pub withFile : Descriptor → Loading → Loading
 withFile d l = record {

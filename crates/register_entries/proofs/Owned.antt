@@ -101,7 +101,7 @@ pub settled-so : (x : Said) (c : Card) (l : Loading)
       chip = c .chip;
       life = lockedAs (c .life) (x .locks);
       loading = withProgress (x .running)
-          (heldAs (l .held) (x .locks)) l;
+          (heldAs (l .held) (l .running) (x .locks)) l;
     } ≡ settledCard x c l
 settled-so x c l = go (x .locks)
   where
@@ -111,7 +111,7 @@ settled-so x c l = go (x .locks)
           chip = c .chip;
           life = lockedAs (c .life) b;
           loading = withProgress (x .running)
-              (heldAs (l .held) b) l;
+              (heldAs (l .held) (l .running) b) l;
         })
         (settledCard (record { word = x .word; running = x .running; locks = b }) c l)
     go true = refl
@@ -122,7 +122,7 @@ pub lived-so : (x : Replied) (c : Card)
       chip = c .chip;
       life = x .life;
       loading = withProgress (shutAs (c .loading .running) (x .locks))
-          (heldAs (c .loading .held) (x .locks)) (c .loading);
+          (heldAs (c .loading .held) (c .loading .running) (x .locks)) (c .loading);
     }
     ≡ livedAs c x
 lived-so x c = go (x .locks)
@@ -133,7 +133,7 @@ lived-so x c = go (x .locks)
           chip = c .chip;
           life = x .life;
           loading = withProgress (shutAs (c .loading .running) b)
-              (heldAs (c .loading .held) b) (c .loading);
+              (heldAs (c .loading .held) (c .loading .running) b) (c .loading);
         })
         (livedAs c (record { word = x .word; answered = x .answered; life = x .life; locks = b }))
     go true = refl

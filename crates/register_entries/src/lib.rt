@@ -41,12 +41,12 @@ fn span(number: u8, life: Life, internal: u8, kind: u8, n: usize) -> usize
     0
 }
 
-// Where the card locks: no byte is held, no value open, and it is at '87', not selected.
-fn held_as(held: [u8; 18], locks: bool) -> [u8; 18]
-    ensures { λ r. ⌜ r ≡ heldAs held locks ⌝ }
+// Where the card locks: an open value is dropped with the held bytes, and it is at '87', not selected.
+fn held_as(held: [u8; 18], p: Running, locks: bool) -> [u8; 18]
+    ensures { λ r. ⌜ r ≡ heldAs held p locks ⌝ }
 {
     if locks {
-        return [0; 18];
+        return walk_course::held_dropped(p, held);
     }
     held
 }
@@ -170,10 +170,10 @@ pub fn enter_all(
         if n != 0 {
             let x = walk_command::settled(end, load.running, p1);
             word = x.word;
+            let held = held_as(load.held, load.running, x.locks);
+            load.held = held;
             let next = x.running;
             load.running = next;
-            let held = held_as(load.held, x.locks);
-            load.held = held;
             life = locked_as(life, x.locks);
         } else if number == 0 {
             let card = Card {
@@ -184,10 +184,10 @@ pub fn enter_all(
             let x = event_replies::lived(card, area, &mut answer, r[0], p1, d);
             word = x.word;
             life = x.life;
+            let held = held_as(load.held, load.running, x.locks);
+            load.held = held;
             let shut = shut_as(load.running, x.locks);
             load.running = shut;
-            let held = held_as(load.held, x.locks);
-            load.held = held;
         }
         count = (count + 1) % NUMBERS;
         register_lines::put_line(

@@ -48,15 +48,17 @@ module _ (p1 : ℕ) (s : State) where
         go false q = refl
 
 module _ (c : Card) (p : Running) (l : Loading) (a : List ℕ) where
-  pub settles-passed : (q : Running) → Settles (record { word = 0x9000; running = q; locks = false }) c l a
+  pub settles-passed : (q : Running)
+      → Settles (record { word = 0x9000; running = q; locks = false }) c (withRunning p l) a
       (commanded c (went 0 (on q l a)))
   settles-passed q = record { says = refl; leaves = refl; keeps = refl }
 
-  pub settles-asked : (t : ℕ) → Settles (record { word = 0x9000; running = p; locks = false }) c l a
+  pub settles-asked : (t : ℕ)
+      → Settles (record { word = 0x9000; running = p; locks = false }) c (withRunning p l) a
       (commanded c (asked t (on p l a)))
   settles-asked t = record { says = refl; leaves = refl; keeps = refl }
 
-  pub settles-erred : (w : ℕ) → Settles (erredAs w p) c l a (commanded c (failed w (on p l a)))
+  pub settles-erred : (w : ℕ) → Settles (erredAs w p) c (withRunning p l) a (commanded c (failed w (on p l a)))
   unfolding errs
   settles-erred w = go (eqb (p .internal) 0x5A)
     where
@@ -64,6 +66,7 @@ module _ (c : Card) (p : Running) (l : Loading) (a : List ℕ) where
       d = withLoading (withRunning p l) c
 
       go : (b : Bool) → Settles (cond b (record { word = w; running = runningOpen Shut p; locks = true })
-          (record { word = w; running = p; locks = false })) c l a (says w (cond b (locked d) d) a)
+          (record { word = w; running = p; locks = false })) c (withRunning p l) a
+          (says w (cond b (locked d) d) a)
       go true = record { says = refl; leaves = refl; keeps = refl }
       go false = record { says = refl; leaves = refl; keeps = refl }

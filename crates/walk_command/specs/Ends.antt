@@ -3,7 +3,6 @@ use Prim.Native.Nat.{ℕ}
 use mathlib.Core.Path.{_≡_}
 use mathlib.Core.Bool.{true, false, cond, not, _&&_}
 use lib.Dec.{eqb}
-use Rattle.lists.specs.Bytes.{zeros}
 use Rattle.model.specs.declared.Card.{Card}
 use Rattle.model.specs.declared.Open.the-variants.{Shut}
 use Rattle.model.specs.Events.{Reply, withLoading}
@@ -13,7 +12,7 @@ use Rattle.model.specs.declared.Loading.{Loading}
 use Rattle.model.specs.declared.Running.{Running}
 use Rattle.model.specs.Stored.{areaSize}
 use Rattle.model.specs.Rows.{mandatoryMissing}
-use Rattle.model.specs.Loads.{State, withRunning, withProgress, runningOpen}
+use Rattle.model.specs.Loads.{State, withRunning, withProgress, runningOpen, heldDropped}
 use Rattle.model.specs.Rules.{Result, went, asked, failed}
 use Rattle.model.specs.Command.{isShut}
 use Rattle.theorem_sound.proofs.Inside.{Steady}
@@ -43,14 +42,14 @@ erredAs w p =
     cond (eqb (p .internal) 0x5A) (record { word = w; running = runningOpen Shut p; locks = true })
     (record { word = w; running = p; locks = false })
 
--- the card of a command that came to this, with a loading part that is as far
+-- the card of a command that came to this, by the loading part that its walk left
 abbrev pub settledCard : Said → Card → Loading → Card
 settledCard x c l =
     cond (x .locks)
     (record {
       chip = c .chip;
       life = record { gp = 0x87; selected = false; name = c .life .name; namelen = c .life .namelen };
-      loading = withProgress (x .running) (zeros 18) l;
+      loading = withProgress (x .running) (heldDropped (l .running .pending) (l .held)) l;
     })
     (withLoading (withRunning (x .running) l) c)
 

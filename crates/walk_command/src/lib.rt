@@ -11,6 +11,7 @@ ghost use mathlib.Core.List.{List};
 ghost use Prim.Native.Nat.{ℕ, _≤_};
 ghost use lib.ListN.{length, drop};
 ghost use Rattle.model.specs.Stored.{areaSize};
+ghost use Rattle.model.specs.Loads.{withRunning};
 ghost use Rattle.model.specs.Rules.{thence};
 ghost use Rattle.model.specs.declared.Card.{Card};
 ghost use Rattle.model.specs.Command.{theEnd};
@@ -185,7 +186,7 @@ fn erred(w: u16, p: Running) -> Said
 // The end of a command whose walk ended so: P1 bit 8 asks for it.
 pub fn settled(end: End, p: Running, p1: u8) -> Said
     ensures { λ r. ⌜ ((c : Card) (l : Loading) (a : List ℕ)
-        → Settles r c l a (commanded c (thence (endOf end (on p l a)) (λ k. theEnd p1)))) ⌝ }
+        → Settles r c (withRunning p l) a (commanded c (thence (endOf end (on p l a)) (λ k. theEnd p1)))) ⌝ }
 {
     match end {
         End::Done => {

@@ -4,7 +4,7 @@ use model::Open;
 use model::Running;
 ghost use mathlib.Core.Path.{_≡_};
 ghost use Prim.Native.Nat.{_≤_};
-ghost use Rattle.model.specs.Loads.{runningTaken, runningOpen};
+ghost use Rattle.model.specs.Loads.{runningTaken, runningOpen, heldDropped};
 ghost use Rattle.walk_course.specs.declared.Course.the-variants.{Failed};
 
 // How a step ends: a value is to be kept, bytes are to be laid in the file area, bytes of '3100' are to be taken, all
@@ -49,6 +49,25 @@ pub fn with_open(p: Running, o: Open) -> Running
         rows: p.rows,
         last: p.last,
         pending: o,
+    }
+}
+
+// The held bytes where an open value is dropped: they go with it, and with nothing open they stay.
+pub fn held_dropped(p: Running, held: [u8; 18]) -> [u8; 18]
+    ensures { λ r. ⌜ r ≡ heldDropped (p .pending) held ⌝ }
+{
+    let pending = p.pending;
+    match pending {
+        Open::Shut => held,
+        Open::Table {
+            held: _,
+            missing: _,
+        } => [0; 18],
+        Open::Record {
+            tag: _,
+            written: _,
+            missing: _,
+        } => [0; 18],
     }
 }
 

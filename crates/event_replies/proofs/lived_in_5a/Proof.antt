@@ -6,7 +6,7 @@ use borrow.Author.Needs.{needs}
 use Rattle.event_replies.proofs.lived_in_5a.Statement.{statement}
 use Rattle.event_replies.proofs.lived_in_5a.Tie as tie
 use mathlib.Core.Bool.{false}
-use Rattle.model.specs.Loads.{withNoneOpen}
+use Rattle.model.specs.Loads.{withDropped}
 use Rattle.answers.specs.Answers.{said}
 use Rattle.event_replies.proofs.ByKind.{event-loads, event-locks, event-stuck, data-locks, data-unselected}
 
@@ -49,7 +49,7 @@ returns-3 c =
           (c .before .before .before .before .before .if2 .left),
       c .locked2 .ensures,
     )
-    (c .before .before .before .told-stuck .ensures p 0x87 false (withNoneOpen (s .c .loading)) a)
+    (c .before .before .before .told-stuck .ensures p 0x87 false (withDropped (s .c .loading)) a)
 
 told-stuck-requires-2 : tie.Need-told-stuck-requires-2
 told-stuck-requires-2 c κs = (

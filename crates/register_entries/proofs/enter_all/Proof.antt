@@ -240,11 +240,11 @@ played c =
     let u = turn-command (card s) (s .before .before .before .before .before .before .before .before .before .loop
     .area) (rec s) (dat s) (its-data s) (sym n ∙ q .1) (q .2) (g .end) (g .load) (g .area) (w .2 .result) (z .0)
     (w .2 .ensures (card s) (g .load) (g .area)) in (
-      rw (w .9, w .10, w .6 .ensures, w .5 .ensures) (settled-so (w .2 .result) (card s) (g .load) ∙ u .0),
-      w .7 ∙ u .1,
+      rw (w .10, w .11, w .7 .ensures, w .5 .ensures) (settled-so (w .2 .result) (card s) (g .load) ∙ u .0),
+      w .8 ∙ u .1,
       q .1 ∙ u .2,
-      w .11 ∙ u .3,
-      ap length (w .8) ∙ k,
+      w .12 ∙ u .3,
+      ap length (w .9) ∙ k,
     ))
     (λ v.
     let e : s .span .result ≡ 0 → (g .load ≡ s .before .before .before .before .before .before .before .before .before
@@ -271,12 +271,12 @@ played c =
       loading = l;
     }) (g .area) (rec s)) (f .0)
     ∙ ap (λ (a : List ℕ). turnOf (card s) a (rec s)) (f .1) in (
-      rw (w .16, w .17, w .11 .ensures, w .13 .ensures)
+      rw (w .17, w .18, w .14 .ensures, w .12 .ensures)
           (lived-so (w .5 .result) m ∙ u .0 ∙ ap (λ (t : Turned). t .card) same),
-      w .14 ∙ u .1 ∙ ap (λ (t : Turned). t .area) same,
+      w .15 ∙ u .1 ∙ ap (λ (t : Turned). t .area) same,
       w .1 .taken ∙ u .2 ∙ ap (λ (t : Turned). t .number) same,
-      w .18 ∙ u .3 ∙ ap (λ (t : Turned). t .word) same,
-      ap length (w .15) ∙ w .5 .kept .1 .1 .0 ∙ k,
+      w .19 ∙ u .3 ∙ ap (λ (t : Turned). t .word) same,
+      ap length (w .16) ∙ w .5 .kept .1 .1 .0 ∙ k,
     ))
     (λ w.
     let f = e (omega (arith, w .0 .left)) in
