@@ -1,3 +1,4 @@
--- Parts of stored bytes, and place sums.
+-- Parts of stored bytes, place sums, and runs of bytes.
 pub mod Parts
 pub mod Places
+pub mod Runs

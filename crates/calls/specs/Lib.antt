@@ -2,3 +2,4 @@
 pub mod Numbers
 pub mod Cards
 pub mod Sums
+pub mod Stores

@@ -56,6 +56,7 @@ fn array4(b: &[u8], at: usize) -> [u8; 4]
     x
 }
 
+// Seven bytes likewise.
 fn array7(b: &[u8], at: usize) -> [u8; 7]
     requires { ⌜ at + 7 ≤ length (now b) ⌝ }
     ensures { λ r. ⌜ r ≡ part (now (b .entry)) at 7 ⌝ }
@@ -65,6 +66,7 @@ fn array7(b: &[u8], at: usize) -> [u8; 7]
     x
 }
 
+// Eight bytes likewise.
 fn array8(b: &[u8], at: usize) -> [u8; 8]
     requires { ⌜ at + 8 ≤ length (now b) ⌝ }
     ensures { λ r. ⌜ r ≡ part (now (b .entry)) at 8 ⌝ }
@@ -74,6 +76,7 @@ fn array8(b: &[u8], at: usize) -> [u8; 8]
     x
 }
 
+// Sixteen bytes likewise.
 fn array16(b: &[u8], at: usize) -> [u8; 16]
     requires { ⌜ at + 16 ≤ length (now b) ⌝ }
     ensures { λ r. ⌜ r ≡ part (now (b .entry)) at 16 ⌝ }
@@ -83,6 +86,7 @@ fn array16(b: &[u8], at: usize) -> [u8; 16]
     x
 }
 
+// Eighteen bytes likewise.
 fn array18(b: &[u8], at: usize) -> [u8; 18]
     requires { ⌜ at + 18 ≤ length (now b) ⌝ }
     ensures { λ r. ⌜ r ≡ part (now (b .entry)) at 18 ⌝ }
@@ -92,6 +96,7 @@ fn array18(b: &[u8], at: usize) -> [u8; 18]
     x
 }
 
+// Sixty-four bytes likewise.
 fn array64(b: &[u8], at: usize) -> [u8; 64]
     requires { ⌜ at + 64 ≤ length (now b) ⌝ }
     ensures { λ r. ⌜ r ≡ part (now (b .entry)) at 64 ⌝ }
@@ -117,6 +122,7 @@ fn chip_in(b: &[u8]) -> Chip
     }
 }
 
+// What the life cycle changes.
 fn life_in(b: &[u8]) -> Life
     requires { ⌜ length (now b) ≡ 1050 ⌝ }
     ensures { λ r. ⌜ r ≡ lifeFrom (now (b .entry)) ⌝ }
@@ -150,6 +156,7 @@ fn open_of(kind: u8, tag: u16, count: usize, missing: usize) -> Open
     Open::Shut
 }
 
+// The open value.
 fn open_in(b: &[u8]) -> Open
     requires { ⌜ length (now b) ≡ 1050 ⌝ }
     ensures { λ r. ⌜ r ≡ openFrom (now (b .entry)) ⌝ }
@@ -160,6 +167,7 @@ fn open_in(b: &[u8]) -> Open
     open_of(b[OPEN_KIND], tag, count, missing)
 }
 
+// How far the loading is.
 fn running_in(b: &[u8]) -> Running
     requires { ⌜ length (now b) ≡ 1050 ⌝ }
     ensures { λ r. ⌜ r ≡ runningFrom (now (b .entry)) ⌝ }
@@ -173,6 +181,7 @@ fn running_in(b: &[u8]) -> Running
     }
 }
 
+// The descriptor at a place.
 fn descriptor_in(b: &[u8], at: usize) -> Descriptor
     requires { ⌜ at + 18 ≤ length (now b) ⌝ }
     ensures { λ r. ⌜ r ≡ descriptorFrom (now (b .entry)) at ⌝ }
@@ -181,6 +190,7 @@ fn descriptor_in(b: &[u8], at: usize) -> Descriptor
     table_fields::descriptor_of(bytes)
 }
 
+// The 31 descriptors.
 fn files_in(b: &[u8]) -> [Descriptor; 31]
     requires { ⌜ length (now b) ≡ 1050 ⌝ }
     ensures { λ r. ⌜ r ≡ filesFrom 31 (now (b .entry)) ⌝ }
@@ -196,6 +206,7 @@ fn files_in(b: &[u8]) -> [Descriptor; 31]
     files
 }
 
+// A secret's bytes, and its length behind them.
 fn secret_in(b: &[u8], at: usize) -> Secret
     requires { ⌜ at + 72 ≤ length (now b) ⌝ }
     ensures { λ r. ⌜ r ≡ secretFrom (now (b .entry)) at ⌝ }
@@ -207,6 +218,7 @@ fn secret_in(b: &[u8], at: usize) -> Secret
     }
 }
 
+// The secrets of '3800' and '4101' to '4104'.
 fn secrets_in(b: &[u8]) -> [Secret; 5]
     requires { ⌜ length (now b) ≡ 1050 ⌝ }
     ensures { λ r. ⌜ r ≡ secretsFrom (now (b .entry)) ⌝ }
@@ -219,6 +231,7 @@ fn secrets_in(b: &[u8]) -> [Secret; 5]
     [first, second, third, fourth, fifth]
 }
 
+// What groupings change.
 fn loading_in(b: &[u8]) -> Loading
     requires { ⌜ length (now b) ≡ 1050 ⌝ }
     ensures { λ r. ⌜ r ≡ loadingFrom (now (b .entry)) ⌝ }

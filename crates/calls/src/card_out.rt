@@ -40,57 +40,67 @@ use model::Open;
 use model::Running;
 use model::Secret;
 use model::TABLE_LIMIT;
+ghost use mathlib.Core.Bool.{cond};
+ghost use mathlib.Core.List.{[], _∷_};
 ghost use mathlib.Core.Path.{_≡_};
 ghost use Prim.Native.Nat.{_+_, _≤_};
-ghost use lib.ListN.{length, set};
-ghost use Rattle.lists.specs.Over.{overwrite};
+ghost use lib.ListN.{length};
+ghost use Rattle.calls.specs.Stores.{Puts, chipBytes, lifeBytes, spanBytes, openBytes, runningBytes};
+ghost use Rattle.calls.specs.Stores.{descriptorBytes, filesBytes, secretBytes, secretsBytes, factsBytes};
+ghost use Rattle.calls.specs.Stores.{loadingBytes, cardBytes};
 
 // A byte, and bytes of an array, from a place on.
 fn put_byte(b: &mut [u8], at: usize, x: u8)
     requires { ⌜ at + 1 ≤ length (now b) ⌝ }
-    ensures { λ _. ⌜ now (b .exit) ≡ set (now (b .entry)) at x ⌝ }
+    ensures { λ _. ⌜ Puts (now (b .entry)) at (x ∷ []) 1 (now (b .exit)) ⌝ }
 {
     b[at] = x;
 }
 
+// Four bytes.
 fn put_array4(b: &mut [u8], at: usize, x: [u8; 4])
     requires { ⌜ at + 4 ≤ length (now b) ⌝ }
-    ensures { λ _. ⌜ now (b .exit) ≡ overwrite (now (b .entry)) at x ⌝ }
+    ensures { λ _. ⌜ Puts (now (b .entry)) at x 4 (now (b .exit)) ⌝ }
 {
     memory::put_bytes(b, at, &x);
 }
 
+// Seven bytes.
 fn put_array7(b: &mut [u8], at: usize, x: [u8; 7])
     requires { ⌜ at + 7 ≤ length (now b) ⌝ }
-    ensures { λ _. ⌜ now (b .exit) ≡ overwrite (now (b .entry)) at x ⌝ }
+    ensures { λ _. ⌜ Puts (now (b .entry)) at x 7 (now (b .exit)) ⌝ }
 {
     memory::put_bytes(b, at, &x);
 }
 
+// Eight bytes.
 fn put_array8(b: &mut [u8], at: usize, x: [u8; 8])
     requires { ⌜ at + 8 ≤ length (now b) ⌝ }
-    ensures { λ _. ⌜ now (b .exit) ≡ overwrite (now (b .entry)) at x ⌝ }
+    ensures { λ _. ⌜ Puts (now (b .entry)) at x 8 (now (b .exit)) ⌝ }
 {
     memory::put_bytes(b, at, &x);
 }
 
+// Sixteen bytes.
 fn put_array16(b: &mut [u8], at: usize, x: [u8; 16])
     requires { ⌜ at + 16 ≤ length (now b) ⌝ }
-    ensures { λ _. ⌜ now (b .exit) ≡ overwrite (now (b .entry)) at x ⌝ }
+    ensures { λ _. ⌜ Puts (now (b .entry)) at x 16 (now (b .exit)) ⌝ }
 {
     memory::put_bytes(b, at, &x);
 }
 
+// Eighteen bytes.
 fn put_array18(b: &mut [u8], at: usize, x: [u8; 18])
     requires { ⌜ at + 18 ≤ length (now b) ⌝ }
-    ensures { λ _. ⌜ now (b .exit) ≡ overwrite (now (b .entry)) at x ⌝ }
+    ensures { λ _. ⌜ Puts (now (b .entry)) at x 18 (now (b .exit)) ⌝ }
 {
     memory::put_bytes(b, at, &x);
 }
 
+// Sixty-four bytes.
 fn put_array64(b: &mut [u8], at: usize, x: [u8; 64])
     requires { ⌜ at + 64 ≤ length (now b) ⌝ }
-    ensures { λ _. ⌜ now (b .exit) ≡ overwrite (now (b .entry)) at x ⌝ }
+    ensures { λ _. ⌜ Puts (now (b .entry)) at x 64 (now (b .exit)) ⌝ }
 {
     memory::put_bytes(b, at, &x);
 }
@@ -98,6 +108,7 @@ fn put_array64(b: &mut [u8], at: usize, x: [u8; 64])
 // The parts of a card, each at its own place of the card's bytes.
 fn put_chip(b: &mut [u8], chip: Chip)
     requires { ⌜ length (now b) ≡ 1050 ⌝ }
+    ensures { λ _. ⌜ Puts (now (b .entry)) 0 (chipBytes chip) 37 (now (b .exit)) ⌝ }
 {
     let reference = chip.reference;
     let challenge = chip.challenge;
@@ -108,12 +119,24 @@ fn put_chip(b: &mut [u8], chip: Chip)
     put_byte(b, CAPACITY, chip.capacity);
 }
 
+// Selected is 1 or 0.
+fn flag(selected: bool) -> u8
+    ensures { λ r. ⌜ r ≡ cond selected 1 0 ⌝ }
+{
+    if selected {
+        return 1;
+    }
+    0
+}
+
+// What the life cycle changes.
 fn put_life(b: &mut [u8], life: Life)
     requires { ⌜ length (now b) ≡ 1050 ⌝ }
+    ensures { λ _. ⌜ Puts (now (b .entry)) 37 (lifeBytes life) 26 (now (b .exit)) ⌝ }
 {
     let name = life.name;
     put_byte(b, GP, life.gp);
-    put_byte(b, SELECTED, life.selected as u8);
+    put_byte(b, SELECTED, flag(life.selected));
     put_array16(b, NAME, name);
     put_eight(b, NAME_LENGTH, life.namelen as u64);
 }
@@ -126,7 +149,10 @@ struct Span {
     pub missing: usize,
 }
 
-fn span_of(pending: Open) -> Span {
+// Where no value is open all of it is zero, and '3100' has no tag here.
+fn span_of(pending: Open) -> Span
+    ensures { λ r. ⌜ spanBytes (r .kind) (r .tag) (r .count) (r .missing) ≡ openBytes pending ⌝ }
+{
     match pending {
         Open::Shut => Span {
             kind: OPEN_NONE,
@@ -153,8 +179,11 @@ fn span_of(pending: Open) -> Span {
     }
 }
 
+// That of the open value.
 fn put_span(b: &mut [u8], s: Span)
     requires { ⌜ length (now b) ≡ 1050 ⌝ }
+    ensures { λ _. ⌜ Puts (now (b .entry)) 68 (spanBytes (s .kind) (s .tag) (s .count) (s .missing)) 19
+        (now (b .exit)) ⌝ }
 {
     put_byte(b, OPEN_KIND, s.kind);
     put_two(b, OPEN_TAG, s.tag);
@@ -162,8 +191,10 @@ fn put_span(b: &mut [u8], s: Span)
     put_eight(b, OPEN_MISSING, s.missing as u64);
 }
 
+// How far the loading is.
 fn put_running(b: &mut [u8], p: Running)
     requires { ⌜ length (now b) ≡ 1050 ⌝ }
+    ensures { λ _. ⌜ Puts (now (b .entry)) 63 (runningBytes p) 24 (now (b .exit)) ⌝ }
 {
     let pending = p.pending;
     put_byte(b, INTERNAL, p.internal);
@@ -175,6 +206,7 @@ fn put_running(b: &mut [u8], p: Running)
 // A descriptor as document 01 stores it.
 fn put_descriptor(b: &mut [u8], at: usize, d: Descriptor)
     requires { ⌜ at + 18 ≤ length (now b) ⌝ }
+    ensures { λ _. ⌜ Puts (now (b .entry)) at (descriptorBytes d) 18 (now (b .exit)) ⌝ }
 {
     let ac = d.ac;
     let nkey = d.nkey;
@@ -187,8 +219,10 @@ fn put_descriptor(b: &mut [u8], at: usize, d: Descriptor)
     memory::put_bytes(b, at + 15, &back);
 }
 
+// The 31 descriptors.
 fn put_files(b: &mut [u8], files: [Descriptor; 31])
     requires { ⌜ length (now b) ≡ 1050 ⌝ }
+    ensures { λ _. ⌜ Puts (now (b .entry)) 105 (filesBytes files) 558 (now (b .exit)) ⌝ }
 {
     let mut i: usize = 0;
     while i < TABLE_LIMIT {
@@ -198,16 +232,20 @@ fn put_files(b: &mut [u8], files: [Descriptor; 31])
     }
 }
 
+// A secret's bytes, and its length behind them.
 fn put_secret(b: &mut [u8], at: usize, s: Secret)
     requires { ⌜ at + 72 ≤ length (now b) ⌝ }
+    ensures { λ _. ⌜ Puts (now (b .entry)) at (secretBytes s) 72 (now (b .exit)) ⌝ }
 {
     let bytes = s.bytes;
     put_array64(b, at, bytes);
     put_eight(b, at + SECRET_LENGTH, s.len as u64);
 }
 
+// The secrets of '3800' and '4101' to '4104'.
 fn put_secrets(b: &mut [u8], secrets: [Secret; 5])
     requires { ⌜ length (now b) ≡ 1050 ⌝ }
+    ensures { λ _. ⌜ Puts (now (b .entry)) 690 (secretsBytes secrets) 360 (now (b .exit)) ⌝ }
 {
     let mut i: usize = 0;
     while i < SECRET_COUNT {
@@ -220,32 +258,36 @@ fn put_secrets(b: &mut [u8], secrets: [Secret; 5])
 // The numbers and facts of the loading part.
 fn put_facts(b: &mut [u8], l: Loading)
     requires { ⌜ length (now b) ≡ 1050 ⌝ }
+    ensures { λ _. ⌜ Puts (now (b .entry)) 663 (factsBytes l) 27 (now (b .exit)) ⌝ }
 {
-    let held = l.held;
     let serial = l.serial;
     let startup = l.startup;
-    put_array18(b, HELD, held);
+    put_eight(b, FILE_COUNT, l.count as u64);
     put_array8(b, SERIAL, serial);
     put_array7(b, STARTUP, startup);
     put_four(b, COUNTER, l.counter);
-    put_eight(b, FILE_COUNT, l.count as u64);
 }
 
+// What groupings change.
 fn put_loading(b: &mut [u8], l: Loading)
     requires { ⌜ length (now b) ≡ 1050 ⌝ }
+    ensures { λ _. ⌜ Puts (now (b .entry)) 63 (loadingBytes l) 987 (now (b .exit)) ⌝ }
 {
     let running = l.running;
+    let held = l.held;
     let files = l.files;
     let secrets = l.secrets;
     put_running(b, running);
-    put_facts(b, l);
+    put_array18(b, HELD, held);
     put_files(b, files);
+    put_facts(b, l);
     put_secrets(b, secrets);
 }
 
-// A card, sound or not.
+// A card, sound or not: all of its bytes.
 pub fn put_card(b: &mut [u8], c: Card)
     requires { ⌜ length (now b) ≡ 1050 ⌝ }
+    ensures { λ _. ⌜ now (b .exit) ≡ cardBytes c ⌝ }
 {
     let chip = c.chip;
     let life = c.life;

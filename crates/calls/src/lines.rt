@@ -67,6 +67,7 @@ fn store_words(bytes: &mut [u8], words: &[u16])
     }
 }
 
+// Words as memory.
 fn put_words(out: &mut [u8], at: usize, words: &[u16]) -> usize
     requires { ⌜ (at ≤ length (now out)) × (length (now words) ≤ 64) ⌝ }
     ensures { λ r. ⌜ Behind at r (now (out .exit)) ⌝ }
@@ -87,6 +88,7 @@ fn put_bytes_of(out: &mut [u8], at: usize, c: Card) -> usize
     print_forms::put_hex(out, to, &bytes)
 }
 
+// The end of a line.
 fn put_end(out: &mut [u8], at: usize) -> usize
     requires { ⌜ at ≤ length (now out) ⌝ }
     ensures { λ r. ⌜ Behind at r (now (out .exit)) ⌝ }
@@ -94,6 +96,7 @@ fn put_end(out: &mut [u8], at: usize) -> usize
     print_forms::put_text(out, at, b"\n")
 }
 
+// The line of `play`.
 pub fn put_played(out: &mut [u8], at: usize, x: Played, area: &[u8], answer: &[u8]) -> usize
     requires { ⌜ (at ≤ length (now out)) × (length (now area) ≤ 12480) × (length (now answer) ≤ 12480) ⌝ }
     ensures { λ r. ⌜ Behind at r (now (out .exit)) ⌝ }
@@ -107,6 +110,7 @@ pub fn put_played(out: &mut [u8], at: usize, x: Played, area: &[u8], answer: &[u
     put_end(out, fourth)
 }
 
+// The line of `run`.
 pub fn put_ran(out: &mut [u8], at: usize, x: Ran, area: &[u8], words: &[u16]) -> usize
     requires { ⌜ (at ≤ length (now out)) × (length (now area) ≤ 12480) × (length (now words) ≤ 64) ⌝ }
     ensures { λ r. ⌜ Behind at r (now (out .exit)) ⌝ }
@@ -119,6 +123,7 @@ pub fn put_ran(out: &mut [u8], at: usize, x: Ran, area: &[u8], words: &[u16]) ->
     put_end(out, fourth)
 }
 
+// The line of `shown`.
 pub fn put_shown(out: &mut [u8], at: usize, x: Shown, part: &[u8]) -> usize
     requires { ⌜ (at ≤ length (now out)) × (length (now part) ≤ 12480) ⌝ }
     ensures { λ r. ⌜ Behind at r (now (out .exit)) ⌝ }
@@ -128,6 +133,7 @@ pub fn put_shown(out: &mut [u8], at: usize, x: Shown, part: &[u8]) -> usize
     put_end(out, second)
 }
 
+// The line of `count`.
 pub fn put_count(out: &mut [u8], at: usize, count: u32) -> usize
     requires { ⌜ at ≤ length (now out) ⌝ }
     ensures { λ r. ⌜ Behind at r (now (out .exit)) ⌝ }
@@ -135,6 +141,7 @@ pub fn put_count(out: &mut [u8], at: usize, count: u32) -> usize
     print_forms::put_form(out, at, b"count #\n", &[count as u64])
 }
 
+// The line of `fresh`.
 pub fn put_made(out: &mut [u8], at: usize, x: Made) -> usize
     requires { ⌜ at ≤ length (now out) ⌝ }
     ensures { λ r. ⌜ Behind at r (now (out .exit)) ⌝ }
@@ -145,6 +152,7 @@ pub fn put_made(out: &mut [u8], at: usize, x: Made) -> usize
     put_end(out, second)
 }
 
+// The line of `write`.
 pub fn put_written(out: &mut [u8], at: usize, x: Written, room: &[u8]) -> usize
     requires { ⌜ (at ≤ length (now out)) × (length (now room) ≤ 12480) ⌝ }
     ensures { λ r. ⌜ Behind at r (now (out .exit)) ⌝ }
@@ -154,6 +162,7 @@ pub fn put_written(out: &mut [u8], at: usize, x: Written, room: &[u8]) -> usize
     put_end(out, second)
 }
 
+// The line of `pull`.
 pub fn put_pulled(out: &mut [u8], at: usize, x: Found, value: &[u8]) -> usize
     requires { ⌜ (at ≤ length (now out)) × (length (now value) ≤ 12480) ⌝ }
     ensures { λ r. ⌜ Behind at r (now (out .exit)) ⌝ }

@@ -71,8 +71,8 @@ fn make_next(s: Stand, out: &mut [u8], label: &[u8], fd: i32) -> Stand
     }
 }
 
-// Call after call, to the end of the input or to a call that is none. The loop counts its turns down from a number that
-// no run uses up, since nothing says that an input ends.
+// Call after call, to the end of the input or to a call that is none. The loop counts its turns down from a number
+// that no run uses up, since nothing says that an input ends.
 fn make_all(out: &mut [u8], label: &[u8], fd: i32) -> Stand
     ensures { λ r. ⌜ r .filled ≤ length (now (out .exit)) ⌝ }
 {
@@ -129,18 +129,21 @@ fn finish(out: &[u8], label: &[u8], s: Stand) -> u8
     io_edge::NOT_DONE
 }
 
+// Room for lines: some are gathered before they are written.
 fn text_buffer() -> [u8; 32768]
     ensures { λ r. ⌜ 32768 ≡ length r ⌝ }
 {
     [0; 32768]
 }
 
+// All calls of an input. The status then.
 fn calls(fd: i32, label: &[u8]) -> u8 {
     let mut out = text_buffer();
     let s = make_all(&mut out, label, fd);
     finish(&out, label, s)
 }
 
+// The arguments are `[--tell] [FILE]`.
 fn main() {
     let mut label = io_edge::label_buffer();
     let tells = io_edge::is_arg(1, b"--tell");

@@ -44,6 +44,7 @@ fn take_card(fault: &mut u8, label: &[u8], fd: i32) -> Card {
     card_in(&bytes)
 }
 
+// One event.
 fn play_on(
     c: Card,
     area: &mut [u8],
@@ -59,6 +60,7 @@ fn play_on(
     put_played(out, at, x, area, answer)
 }
 
+// Card, area, answer buffer, record.
 fn make_play(fault: &mut u8, label: &[u8], fd: i32, out: &mut [u8], at: usize) -> usize
     requires { ⌜ at ≤ length (now out) ⌝ }
     ensures { λ r. ⌜ r ≤ length (now (out .exit)) ⌝ }
@@ -77,6 +79,7 @@ fn make_play(fault: &mut u8, label: &[u8], fd: i32, out: &mut [u8], at: usize) -
     play_on(c, &mut area[..n], &mut answer[..m], &record[..k], out, at)
 }
 
+// A session.
 fn run_on(
     c: Card,
     area: &mut [u8],
@@ -92,6 +95,7 @@ fn run_on(
     put_ran(out, at, x, area, words)
 }
 
+// Card, area, session, words.
 fn make_run(fault: &mut u8, label: &[u8], fd: i32, out: &mut [u8], at: usize) -> usize
     requires { ⌜ at ≤ length (now out) ⌝ }
     ensures { λ r. ⌜ r ≤ length (now (out .exit)) ⌝ }
@@ -110,6 +114,7 @@ fn make_run(fault: &mut u8, label: &[u8], fd: i32, out: &mut [u8], at: usize) ->
     run_on(c, &mut area[..n], &session[..m], &mut words[..k], out, at)
 }
 
+// A file's record.
 fn shown_on(c: Card, area: &[u8], sfi: u8, nn: u8, out: &mut [u8], at: usize) -> usize
     requires { ⌜ (at ≤ length (now out)) × (length (now area) ≤ 12480) ⌝ }
     ensures { λ r. ⌜ Behind at r (now (out .exit)) ⌝ }
@@ -119,6 +124,7 @@ fn shown_on(c: Card, area: &[u8], sfi: u8, nn: u8, out: &mut [u8], at: usize) ->
     put_shown(out, at, x, part)
 }
 
+// Card, area, SFI, nn.
 fn make_shown(fault: &mut u8, label: &[u8], fd: i32, out: &mut [u8], at: usize) -> usize
     requires { ⌜ at ≤ length (now out) ⌝ }
     ensures { λ r. ⌜ r ≤ length (now (out .exit)) ⌝ }
@@ -135,6 +141,7 @@ fn make_shown(fault: &mut u8, label: &[u8], fd: i32, out: &mut [u8], at: usize) 
     shown_on(c, &area[..n], asked[0], asked[1], out, at)
 }
 
+// The rows of a set.
 fn make_count(fault: &mut u8, label: &[u8], fd: i32, out: &mut [u8], at: usize) -> usize
     requires { ⌜ at ≤ length (now out) ⌝ }
     ensures { λ r. ⌜ r ≤ length (now (out .exit)) ⌝ }
@@ -148,6 +155,7 @@ fn make_count(fault: &mut u8, label: &[u8], fd: i32, out: &mut [u8], at: usize) 
     put_count(out, at, face::count(two_at(&rows, 0)))
 }
 
+// The fresh card of a chip record.
 fn make_fresh(fault: &mut u8, label: &[u8], fd: i32, out: &mut [u8], at: usize) -> usize
     requires { ⌜ at ≤ length (now out) ⌝ }
     ensures { λ r. ⌜ r ≤ length (now (out .exit)) ⌝ }
@@ -161,6 +169,7 @@ fn make_fresh(fault: &mut u8, label: &[u8], fd: i32, out: &mut [u8], at: usize) 
     put_made(out, at, face::fresh(&chip[..n]))
 }
 
+// The writer's records.
 fn write_on(chip: &[u8], order: &[u8], room: &mut [u8], out: &mut [u8], at: usize) -> usize
     requires { ⌜ (at ≤ length (now out)) × (length (now room) ≤ 12480) ⌝ }
     ensures { λ r. ⌜ Behind at r (now (out .exit)) ⌝ }
@@ -169,6 +178,7 @@ fn write_on(chip: &[u8], order: &[u8], room: &mut [u8], out: &mut [u8], at: usiz
     put_written(out, at, x, room)
 }
 
+// Chip record, order, room.
 fn make_write(fault: &mut u8, label: &[u8], fd: i32, out: &mut [u8], at: usize) -> usize
     requires { ⌜ at ≤ length (now out) ⌝ }
     ensures { λ r. ⌜ r ≤ length (now (out .exit)) ⌝ }
@@ -186,16 +196,17 @@ fn make_write(fault: &mut u8, label: &[u8], fd: i32, out: &mut [u8], at: usize) 
     write_on(&chip[..n], &order[..m], &mut room[..k], out, at)
 }
 
-// A pull as the reader's `pull` makes it: what is found at a place, and its value.
+// A pull of the reader at a place: what it finds, and the value that it hands back.
 fn pull_on(order: &[u8], place: usize, out: &mut [u8], at: usize) -> usize
     requires { ⌜ (at ≤ length (now out)) × (length (now order) ≤ 12480) ⌝ }
     ensures { λ r. ⌜ Behind at r (now (out .exit)) ⌝ }
 {
-    let x = order_reader::found_at(order, place);
-    let value = order_reader::value_of(order, x);
+    let x = face::pulled_at(order, place);
+    let value = face::value_pulled(order, place);
     put_pulled(out, at, x, value)
 }
 
+// Order, place.
 fn make_pull(fault: &mut u8, label: &[u8], fd: i32, out: &mut [u8], at: usize) -> usize
     requires { ⌜ at ≤ length (now out) ⌝ }
     ensures { λ r. ⌜ r ≤ length (now (out .exit)) ⌝ }

@@ -11,7 +11,9 @@ pub use call_shown::part_shown;
 pub use call_shown::shown;
 pub use row_sets::count;
 
-// "The writer" and "the reader" of an order.
+// "The writer" and "the reader" of an order; and one pull at a place, for whoever keeps no reader.
 pub use order_reader::Reader;
 pub use order_reader::pull;
+pub use order_reader::pulled_at;
+pub use order_reader::value_pulled;
 pub use order_writer::write;

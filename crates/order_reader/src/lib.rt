@@ -113,3 +113,27 @@ pub fn pull<'a>(r: Reader<'a>) -> Drawn<'a>
         found: found,
     }
 }
+
+// What a pull at a place finds: the reader stands in a local.
+pub fn pulled_at(order: &[u8], at: usize) -> Found
+    ensures { λ f. ⌜ f ≡ foundAt (now (order .entry)) at ⌝ }
+{
+    let reader = Reader {
+        order: order,
+        at: at,
+    };
+    let drawn = pull(reader);
+    drawn.found
+}
+
+// The value that a pull at a place hands back.
+pub fn value_pulled<'a>(order: &'a [u8], at: usize) -> &'a [u8]
+    ensures { λ r. ⌜ now r ≡ valueOf (now (order .entry)) (foundAt (now (order .entry)) at) ⌝ }
+{
+    let reader = Reader {
+        order: order,
+        at: at,
+    };
+    let drawn = pull(reader);
+    drawn.value
+}

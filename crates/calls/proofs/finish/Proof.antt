@@ -11,4 +11,5 @@ slice-aggregate-write c = simp length-take (omega arith)
 pub finish-spec : {M : Type 1} → statement M
 finish-spec =
     tie.close
-    (tie.spec slice-aggregate-write (search needs) (search needs) (search needs) (search needs) (search needs) (search needs) (search needs))
+    (tie.spec slice-aggregate-write (search needs) (search needs) (search needs) (search needs) (search needs)
+    (search needs) (search needs))

@@ -6,7 +6,12 @@ use Rattle.calls.proofs.card_in.chip_in.Tie as tie
 
 returns : tie.Need-returns
 unfolding chipOf
-returns c = simp (c .before .before .before .array4 .ensures, c .before .before .array16 .ensures, c .before .array162 .ensures)
+returns c =
+    simp (
+      c .before .before .before .array4 .ensures,
+      c .before .before .array16 .ensures,
+      c .before .array162 .ensures,
+    )
 
 pub chip-in-spec : {M : Type 1} → statement M
 chip-in-spec =

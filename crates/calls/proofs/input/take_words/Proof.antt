@@ -11,4 +11,5 @@ returns c = (search needs, simp length-take (omega arith))
 pub take-words-spec : {M : Type 1} → statement M
 take-words-spec =
     tie.close
-    (tie.spec (search needs) (search needs) (search needs) (search needs) (search needs) (search needs) (search needs) returns)
+    (tie.spec (search needs) (search needs) (search needs) (search needs) (search needs) (search needs)
+    (search needs) returns)

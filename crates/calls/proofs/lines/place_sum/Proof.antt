@@ -1,4 +1,5 @@
--- `calls::place_sum`: the whole sum is what is summed up and the sum of what is behind; i turns sum up to i times 3182400.
+-- `calls::place_sum`: the whole sum is what is summed up and the sum of what is behind; i turns sum up to i
+-- times 3182400.
 use Prim.Native.Nat.{_+_, _*_, _-_, _≤_}
 use mathlib.Core.Path.{_≡_}
 use native.Mathlib.Omega.{arith}
@@ -41,4 +42,5 @@ returns c =
 pub place-sum-spec : {M : Type 1} → statement M
 place-sum-spec =
     tie.close
-    (tie.spec Inv-loop μ-loop loop-holds (search needs) (search needs) (search needs) (search needs) (search needs) loop-again returns)
+    (tie.spec Inv-loop μ-loop loop-holds (search needs) (search needs) (search needs) (search needs)
+    (search needs) loop-again returns)

@@ -14,4 +14,5 @@ put-memory-requires c κs = (search needs, simp length-take (omega arith))
 pub put-words-spec : {M : Type 1} → statement M
 put-words-spec =
     tie.close
-    (tie.spec (search needs) (search needs) (search needs) (search needs) slice-aggregate-put-memory put-memory-requires (search needs) (search needs))
+    (tie.spec (search needs) (search needs) (search needs) (search needs) slice-aggregate-put-memory
+    put-memory-requires (search needs) (search needs))

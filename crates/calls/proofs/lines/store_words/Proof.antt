@@ -15,4 +15,5 @@ abbrev μ-loop : tie.MeasureT-loop
 pub store-words-spec : {M : Type 1} → statement M
 store-words-spec =
     tie.close
-    (tie.spec Inv-loop μ-loop (search needs) (search needs) (search needs) (search needs) (search needs) (search needs) (search needs) (search needs) (search needs) (search needs))
+    (tie.spec Inv-loop μ-loop (search needs) (search needs) (search needs) (search needs) (search needs)
+    (search needs) (search needs) (search needs) (search needs) (search needs))

@@ -1,6 +1,7 @@
 -- `calls::pull_on`: the value is a part of the order, and no longer than that (`part-within`).
 use native.Mathlib.Omega.{arith}
 use denote.Ref.{now}
+use Rattle.order_reader.specs.Reads.{foundAt}
 use Rattle.calls.proofs.Parts.{part-within}
 use borrow.Author.Needs.{needs}
 use Rattle.calls.proofs.making.pull_on.Statement.{statement}
@@ -9,9 +10,9 @@ use Rattle.calls.proofs.making.pull_on.Tie as tie
 put-pulled-requires : tie.Need-put-pulled-requires
 put-pulled-requires c κs =
     let s = now (c .before .before .before .before .before .args .order) in
-    let x = c .before .before .found-at .result in
+    let x = foundAt s (c .before .before .before .before .before .args .place) in
     let h = part-within s (x .start) (x .len) in
-    (search needs, rw (c .before .value-of .ensures) (omega (arith, h)))
+    (search needs, rw (c .before .value-pulled .ensures) (omega (arith, h)))
 
 pub pull-on-spec : {M : Type 1} → statement M
 pull-on-spec =

@@ -1,4 +1,5 @@
--- `calls::put_eight`: four bytes of the number's upper half, then four of its lower; by `run-more` the two runs are one.
+-- `calls::put_eight`: four bytes of the number's upper half, then four of its lower; by `run-more` the two runs
+-- are one.
 use mathlib.Core.Path.{refl, _∙_}
 use borrow.Author.Needs.{needs}
 use Rattle.print_numbers.proofs.Runs.{run-more}
