@@ -34,8 +34,9 @@ use Rattle.order_writer.proofs.Returns.{written-taken}
 use Rattle.demands.proofs.Refusals.{Refused, answered-play, told-play, told-run, told-shown, told-fresh}
 use Rattle.demands.proofs.Refusals.{told-write}
 
--- 1. "Every call takes every input there can be, ends, and answers or refuses by number." None of their contracts has a `requires`;
--- each determines what comes back for every input. "A call refused by number changes neither the card's state nor a lent byte."
+-- 1. "Every call takes every input there can be, ends, and answers or refuses by number." None of their contracts has a
+-- `requires`; each determines what comes back for every input. "A call refused by number changes neither the card's
+-- state nor a lent byte."
 
 pub play-refused : (c : Card) (area answer r area′ answer′ : List ℕ) (x : Played)
     → Plays (playOf c area (length answer) r) x area′ answer answer′
@@ -73,8 +74,10 @@ write-refused chip order room room′ x p =
     let t = told-write chip order (length room) in (
       rw (p .number) (t .0),
       λ h.
-          let e = t .1 (λ z. h (p .number ∙ z)) in
-          (p .count ∙ ap length e, p .room ∙ ap (λ (l : List (List ℕ)). overwrite room 0 (joined l)) e ∙ over-none room 0),
+          let e = t .1 (λ z. h (p .number ∙ z)) in (
+            p .count ∙ ap length e,
+            p .room ∙ ap (λ (l : List (List ℕ)). overwrite room 0 (joined l)) e ∙ over-none room 0,
+          ),
     )
 
 -- a shown record lends nothing that could change; a refusal shows no byte
@@ -107,8 +110,8 @@ event-as-defined c area answer r area′ answer′ x p h =
     )
 
 -- "In return, each complete order of at most 8,192 bytes is cut into commands, given room, and a freshly installed and
--- selected card of that chip takes them all and ends PERSONALIZED." Installed and selected: by INSTALL '0C', or '04' and
--- '08', and SELECT, for every name of 5 to 16 bytes (`Front`). "An order that isn't complete is refused."
+-- selected card of that chip takes them all and ends PERSONALIZED." Installed and selected: by INSTALL '0C', or '04'
+-- and '08', and SELECT, for every name of 5 to 16 bytes (`Front`). "An order that isn't complete is refused."
 
 pub cut-is-taken : {name : List ℕ} {front : List (List ℕ)} → Front name front
     → (chip area order room room′ : List ℕ) (x : Written) (wordRoom : ℕ)
@@ -128,8 +131,8 @@ pub files-are-filled : {name : List ℕ} {front : List (List ℕ)} → Front nam
     Contents (fileList (x .run .card .loading)) (valuesOf order) (x .run .area)
 files-are-filled f chip area order room wordRoom h a l =
     let e = ap (λ (y : Writing). y .records) (write-all chip order room h) in
-    rw e at (write-contents f chip area order room wordRoom (ap (λ (y : Writing). y .number) (write-all chip order room h))
-    a (rw e l))
+    let n = ap (λ (y : Writing). y .number) (write-all chip order room h) in
+    rw e at (write-contents f chip area order room wordRoom n a (rw e l))
 
 pub incomplete-refused : (chip order room room′ : List ℕ) (x : Written)
     → Writes (writeOf chip order (length room)) room x room′ → complete (chipOf chip .capacity) order ≡ false
@@ -137,10 +140,10 @@ pub incomplete-refused : (chip order room room′ : List ℕ) (x : Written)
 incomplete-refused chip order room room′ x w e n =
     never (sym e ∙ write-only chip order (length room) (sym (w .number) ∙ n) .complete-so)
 
--- 3. "Secrets stay secret. Two sessions from fresh cards of one chip, equal file areas, alike but for value bytes inside
--- activation, key or PIN groupings that pass all their checks: event by event every word, answer, state, table entry,
--- file byte and refusal is the same; the cards differ only in the kept secrets, at those bytes." Event by event, shown
--- records, sessions and what `replay` prints are the four parts of `SecretsStaySecret` (theorem_secrecy/specs/Demand).
+-- 3. "Secrets stay secret. Two sessions from fresh cards of one chip, equal file areas, alike but for value bytes
+-- inside activation, key or PIN groupings that pass all their checks: event by event every word, answer, state, table
+-- entry, file byte and refusal is the same; the cards differ only in the kept secrets, at those bytes." Event by event,
+-- shown records, sessions and what `replay` prints are its four parts (theorem_secrecy/specs/Demand).
 
 pub secrets-stay-secret : (z : Hiding) → SecretsStaySecret z
 secrets-stay-secret = secrecy.secrets-stay-secret

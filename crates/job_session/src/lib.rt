@@ -76,7 +76,8 @@ pub struct Job {
 // The chip record and the session of this chip's job, laid from the room's front: what `cut` prints.
 pub fn lay_job(chip: &[u8], order: &[u8], room: &mut [u8]) -> Job
     ensures { λ r. ⌜ LaysJob (now (chip .entry)) (jobWriting (now (chip .entry)) (now (order .entry))
-        (length (now (room .entry)))) (now (room .entry)) r (now (room .exit)) × (r .size ≤ length (now (room .exit))) ⌝ }
+        (length (now (room .entry)))) (now (room .entry)) r (now (room .exit))
+        × (r .size ≤ length (now (room .exit))) ⌝ }
 {
     let front = memory::least(CHIP_SIZE, room.len());
     let session = lay_session(chip, order, &mut room[front..]);

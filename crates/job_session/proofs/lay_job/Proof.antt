@@ -1,5 +1,5 @@
--- `job_session::lay_job`: by the session's number: `job-refused` has the room as it was; `job-passed` has the chip record
--- and the session, and the chip record has its room then (`chip-fits`).
+-- `job_session::lay_job`: by the session's number: `job-refused` has the room as it was; `job-passed` has the chip
+-- record and the session, and the chip record has its room then (`chip-fits`).
 use native.Mathlib.Nat.{zero-add}
 use native.Mathlib.Omega.{arith}
 use denote.Ref.{now}

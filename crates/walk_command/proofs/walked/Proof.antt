@@ -201,7 +201,7 @@ loop-again c =
       c .before .before .lay .ensures,
       over-mid (g .area) (part (now d) (x .1 .0) (x .1 .1 .0 - x .1 .0))
           (x .0) (x .0 + (x .1 .1 .0 - x .1 .0) - x .0)
-          (omega (arith, laid k, length-take (x .1 .1 .0 - x .1 .0) (drop (x .1 .0) (now d)), length-drop (x .1 .0) (now d)))
+          (omega (arith, laid k, length-take (x .1 .1 .0 - x .1 .0) (drop (x .1 .0) (now d))))
           (omega (arith, laid k)),
     )
     (turn (k .before .before .before .before) .lays _ _ _ (k .before .course .given .1))
@@ -303,9 +303,9 @@ walked-spec =
     tie.close
     (tie.spec Inv-loop2 μ-loop2 Inv-loop μ-loop loop-holds (search needs) (search needs) (search needs)
     (search needs) loop2-holds (search needs) element-copy-out-f spot-in-requires (search needs) loop2-again
-    (search needs) add-base add-j (search needs) loop2-again-2 step-at-requires (search needs) sub-lay
-    add-lay sub-lay-2 part-lay-start part-lay-end sub-lay-3 part-lay-start-2 part-lay-end-2 lay-requires loop-less loop-again
-    (search needs) sub-kept-as part-kept-as-start part-kept-as-end kept-as-requires loop-less-2 loop-again-2
-    (search needs) table-fed-requires (search needs) loop-less-3 loop-again-3 (search needs) same-length
-    returns (search needs) same-length-2 returns-2 (search needs) same-length-3 returns-3 same-length-4
+    (search needs) add-base add-j (search needs) loop2-again-2 step-at-requires (search needs) sub-lay add-lay
+    sub-lay-2 part-lay-start part-lay-end sub-lay-3 part-lay-start-2 part-lay-end-2 lay-requires loop-less
+    loop-again (search needs) sub-kept-as part-kept-as-start part-kept-as-end kept-as-requires loop-less-2
+    loop-again-2 (search needs) table-fed-requires (search needs) loop-less-3 loop-again-3 (search needs)
+    same-length returns (search needs) same-length-2 returns-2 (search needs) same-length-3 returns-3 same-length-4
     returns-4)
