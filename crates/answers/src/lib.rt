@@ -1,4 +1,6 @@
 // What the card answers, laid at the front of the answer buffer: both FCIs, and a query's answer.
+#![tactic(auto)]
+
 ghost use Rattle.std.specs.Prelude.{◌≡◌, ◌+◌, ◌≤◌, length};
 ghost use Rattle.lists.specs.Over.{overwrite};
 ghost use Rattle.model.specs.Events.{name_fci, full_fci, answer_to};

@@ -1,4 +1,6 @@
 // One event: numbers 1, 2, 6 and 3, else the turn of its record.
+#![tactic(auto)]
+
 ghost use Rattle.std.specs.Prelude.{◌<◌, length};
 ghost use Rattle.model.specs.Session.{play_of};
 ghost use Rattle.event_replies.specs.Plays.{Plays};

@@ -1,4 +1,6 @@
 // A session on a card: its events one after the other.
+#![tactic(auto)]
+
 ghost use Rattle.std.specs.Prelude.{length};
 ghost use Rattle.model.specs.Session.{run_of};
 ghost use Rattle.call_run.specs.Runs.{Checked, Runs};

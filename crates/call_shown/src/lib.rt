@@ -1,4 +1,6 @@
 // A file's record, shown as the part of the file area where it is stored.
+#![tactic(auto)]
+
 ghost use Rattle.std.specs.Prelude.{◌≡◌};
 ghost use Rattle.model.specs.Session.{unshown, shown_of, part_shown};
 

@@ -1,4 +1,6 @@
 // The fresh card, made from a chip record.
+#![tactic(auto)]
+
 ghost use Rattle.std.specs.Prelude.{◌≡◌, ◌≤◌, length};
 ghost use Rattle.lists.specs.Bytes.{padded};
 ghost use Rattle.model.specs.Stored.{chip_size, chip_of, chip_form, fresh_loading, fresh_card};

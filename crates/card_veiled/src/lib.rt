@@ -1,4 +1,6 @@
 // A card without its secrets' bytes, for what is shown to people: their lengths stay.
+#![tactic(auto)]
+
 ghost use Rattle.std.specs.Prelude.{◌≡◌};
 ghost use Rattle.theorem_secrecy.specs.View.{every};
 ghost use Rattle.theorem_secrecy.specs.Veil.{veil_secret, veil_secrets, veil};

@@ -1,4 +1,6 @@
 // Which records are events; the answer to a record that is refused.
+#![tactic(auto)]
+
 ghost use Rattle.std.specs.Prelude.{◌≡◌, ◌+◌, ◌<◌, length};
 ghost use Rattle.model.specs.Stored.{is_kind};
 ghost use Rattle.event_kinds.specs.Faults.{fault_in};

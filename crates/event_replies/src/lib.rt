@@ -1,4 +1,6 @@
 // Events that are no command for the walk: a small reply, whatever the state. Whoever has the card makes the change.
+#![tactic(auto)]
+
 ghost use Rattle.std.specs.Prelude.{◌≡◌, Bool, true, false, cond, List, eqb, ℕ, ◌≤◌, length};
 ghost use Rattle.model.specs.declared.Loading.{Loading};
 ghost use Rattle.model.specs.Stored.{area_size};
@@ -15,7 +17,7 @@ use model::{Card, Life, STORE_DATA};
 const SELECT: u8 = 3;
 
 // A word, how many answer bytes, the life after it, and whether the card locks by it, which drops an open value.
-#[derive(Drop)]
+#[derive(Clone, Copy)]
 pub struct Replied {
     pub word: u16,
     pub answered: usize,
@@ -64,7 +66,7 @@ fn unanswered(c: Card, area: &mut [u8], kind: u8, p1: u8, d: &[u8]) -> Lived
 }
 
 // A word, and how many answer bytes.
-#[derive(Drop)]
+#[derive(Clone, Copy)]
 struct Told {
     pub word: u16,
     pub answered: usize,

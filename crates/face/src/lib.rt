@@ -1,5 +1,6 @@
 // The calls of document 01, and nothing else: what a program that loads cards needs to know of this library. None of
 // them has a `requires`, so each takes every input there can be; their contracts stand where they are defined.
+#![tactic(auto)]
 
 // "The fresh card of a chip record."
 pub use card_fresh::fresh;

@@ -1,4 +1,6 @@
 // One header at a place of a slice, and which tags are queries.
+#![tactic(auto)]
+
 ghost use Rattle.std.specs.Prelude.{◌≡◌, ◌+◌, ◌≤◌, length, drop};
 ghost use Rattle.lists.specs.Bytes.{word_at};
 ghost use Rattle.model.specs.Header.{header_of};

@@ -1,4 +1,6 @@
 // The register of a job: its order cut, played on a fresh card of its chip, and a line for each event.
+#![tactic(auto)]
+
 ghost use Rattle.std.specs.Prelude.{◌≡◌, ◌≤◌, length};
 ghost use Rattle.job_register.specs.Jobs.{refused_as, record_room, job_writing, Registers, Session, Plays};
 
@@ -11,7 +13,7 @@ pub const RECORD_ROOM: usize = 12220;
 pub const LINE_ROOM: usize = 1232;
 
 // How a job ended: its refusal's number, or 0 and how many events there were, and what the card then is.
-#[derive(Drop)]
+#[derive(Clone, Copy)]
 pub struct Entry {
     pub number: u8,
     pub events: usize,

@@ -1,4 +1,6 @@
 // The session of a job, in lent room: INSTALL '0C' and SELECT of the instance, and behind them the writer's records.
+#![tactic(auto)]
+
 ghost use Rattle.std.specs.Prelude.{◌≡◌, ◌++◌, ◌≤◌, min, length};
 ghost use Rattle.lists.specs.Over.{overwrite};
 ghost use Rattle.theorem_cutting.specs.Job.{install_record, select_record};
@@ -64,7 +66,7 @@ pub fn lay_session(chip: &[u8], order: &[u8], room: &mut [u8]) -> Written
 }
 
 // The number of a refusal or 0, and how many bytes a job's session takes with the chip record before it.
-#[derive(Drop)]
+#[derive(Clone, Copy)]
 pub struct Job {
     pub number: u8,
     pub size: usize,

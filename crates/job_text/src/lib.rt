@@ -1,4 +1,6 @@
 // Hexadecimal job text, read block by block: its bytes, the line of each, and the first fault.
+#![tactic(auto)]
+
 ghost use Rattle.std.specs.Prelude.{◌≡◌, ◌+◌, ◌≤◌, min, length};
 ghost use Rattle.lists.specs.Over.{overwrite};
 ghost use Rattle.job_text.specs.Characters.{sign_of, sort_of};
@@ -38,7 +40,7 @@ const VALUES: [u8; 256] = *b"\
     \x10\x10\x10\x10\x10\x10\x10\x10\x10\x10\x10\x10\x10\x10\x10\x10";
 
 // What a character is by itself.
-#[derive(Drop)]
+#[derive(Clone, Copy)]
 pub enum Sort {
     Digit(u8),
     Blank,
@@ -48,14 +50,14 @@ pub enum Sort {
 }
 
 // What a character completes.
-#[derive(Drop)]
+#[derive(Clone, Copy)]
 pub enum Given {
     Nothing,
     Byte(u8),
 }
 
 // What the reader stands in.
-#[derive(Drop)]
+#[derive(Clone, Copy)]
 pub enum Mode {
     // Of a byte order mark so many bytes are passed; none at the text's beginning.
     Mark(u8),
@@ -68,7 +70,7 @@ pub enum Mode {
 }
 
 // The line and column are those of the next character; of the first digit where its pair is half; of the fault.
-#[derive(Drop)]
+#[derive(Clone, Copy)]
 pub struct Place {
     pub mode: Mode,
     pub line: u32,
@@ -76,7 +78,7 @@ pub struct Place {
 }
 
 // A place, and how many bytes are laid.
-#[derive(Drop)]
+#[derive(Clone, Copy)]
 pub struct Reading {
     pub mode: Mode,
     pub line: u32,

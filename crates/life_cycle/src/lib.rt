@@ -1,4 +1,6 @@
 // LOCK, UNLOCK, DESELECT, RESET and another command: they change the card's life and nothing else of it.
+#![tactic(auto)]
+
 ghost use Rattle.std.specs.Prelude.{◌≡◌, List, ℕ, ◌+◌, ◌<◌};
 ghost use Rattle.model.specs.Events.{says, with_life, lock, unlock, deselect, foreign};
 
@@ -7,7 +9,7 @@ use model::{Card, Life};
 const LOCKED: u8 = 0x80;
 
 // The word of an event, and the life after it.
-#[derive(Drop)]
+#[derive(Clone, Copy)]
 pub struct Lived {
     pub word: u16,
     pub life: Life,

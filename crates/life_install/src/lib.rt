@@ -1,4 +1,6 @@
 // INSTALL: what it makes of the card's life and of the file area.
+#![tactic(auto)]
+
 ghost use Rattle.std.specs.Prelude.{◌≡◌, List, ℕ, ◌≤◌, length, true};
 ghost use Rattle.model.specs.Events.{says, with_life, names_in, install_form, installing, making_selectable, install};
 ghost use Rattle.life_names.specs.Places.{named_as};

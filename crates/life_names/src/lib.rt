@@ -1,4 +1,6 @@
 // INSTALL's data: the three names, each after its length byte, and the forms.
+#![tactic(auto)]
+
 ghost use Rattle.std.specs.Prelude.{◌≡◌, ◌+◌, ◌≤◌, ◌<◌, length, take, drop};
 ghost use Rattle.lists.specs.Bytes.{byte_at, same};
 ghost use Rattle.model.specs.Events.{names_in, name_length, install_form, selectable_form};
@@ -9,7 +11,7 @@ use model::Life;
 const NAME_ROOM: usize = 16;
 
 // Where INSTALL's data has what: the lengths of the three names, the place of the third, that of the tail.
-#[derive(Drop)]
+#[derive(Clone, Copy)]
 pub struct Places {
     pub first: usize,
     pub second: usize,

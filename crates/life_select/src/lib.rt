@@ -1,4 +1,6 @@
 // SELECT, outside 5A: the word, and the life after it.
+#![tactic(auto)]
+
 ghost use Rattle.std.specs.Prelude.{◌≡◌, List, ℕ, ◌≤◌, ◌<◌, length, true};
 ghost use Rattle.model.specs.Events.{with_life, invalidated, select};
 ghost use Rattle.answers.specs.Answers.{Answers};
@@ -6,7 +8,7 @@ ghost use Rattle.answers.specs.Answers.{Answers};
 use model::{Card, Life};
 
 // The word of SELECT, the number of its answer bytes, and the life after it.
-#[derive(Drop)]
+#[derive(Clone, Copy)]
 pub struct Replied {
     pub word: u16,
     pub answered: usize,

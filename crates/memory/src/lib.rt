@@ -1,4 +1,6 @@
 // Lent memory: bytes laid, cleared, read as numbers, and copied into an array.
+#![tactic(auto)]
+
 ghost use Rattle.std.specs.Prelude.{◌≡◌, ◌+◌, ◌≤◌, ◌*◌, ◌<◌, min, length, drop};
 ghost use Rattle.lists.specs.Bytes.{part, zeros, all_zero, padded};
 ghost use Rattle.lists.specs.Over.{overwrite};

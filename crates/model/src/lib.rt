@@ -1,5 +1,6 @@
 // What document 01 speaks of, as types and sizes: the chip, the card in its three parts, a header, and the answers of
 // the calls. All that it says of them is in specs/; there is no logic here.
+#![tactic(auto)]
 
 // Stored forms: a chip record, its session capacity's place; an event record, its data's place; the file area; the
 // least answer buffer; the longest order.
@@ -46,7 +47,7 @@ pub const LINE_SIZE: usize = 26;
 pub const END_SIZE: usize = 10;
 
 // A chip record's facts.
-#[derive(Drop)]
+#[derive(Clone, Copy)]
 pub struct Chip {
     pub reference: [u8; 4],
     pub challenge: [u8; 16],
@@ -55,7 +56,7 @@ pub struct Chip {
 }
 
 // A file table's descriptor, 18 bytes when stored.
-#[derive(Drop)]
+#[derive(Clone, Copy)]
 pub struct Descriptor {
     pub lid: u16,
     pub sfi: u8,
@@ -71,14 +72,14 @@ pub struct Descriptor {
 }
 
 // The value of '3800' or '410n': its first `len` bytes.
-#[derive(Drop)]
+#[derive(Clone, Copy)]
 pub struct Secret {
     pub bytes: [u8; 64],
     pub len: usize,
 }
 
 // A value that runs on into the next command. The held bytes of '3100' are kept beside it.
-#[derive(Drop)]
+#[derive(Clone, Copy)]
 pub enum Open {
     Shut,
     Table {
@@ -93,7 +94,7 @@ pub enum Open {
 }
 
 // How far the loading is: what almost every grouping changes, and small.
-#[derive(Drop)]
+#[derive(Clone, Copy)]
 pub struct Running {
     pub internal: u8,
     pub rows: u16,
@@ -102,7 +103,7 @@ pub struct Running {
 }
 
 // What groupings change: nothing else of a card is the walk's to touch.
-#[derive(Drop)]
+#[derive(Clone, Copy)]
 pub struct Loading {
     pub running: Running,
     pub held: [u8; 18],
@@ -115,7 +116,7 @@ pub struct Loading {
 }
 
 // What the life cycle's events change.
-#[derive(Drop)]
+#[derive(Clone, Copy)]
 pub struct Life {
     pub gp: u8,
     pub selected: bool,
@@ -123,7 +124,7 @@ pub struct Life {
     pub namelen: usize,
 }
 
-#[derive(Drop)]
+#[derive(Clone, Copy)]
 pub struct Card {
     pub chip: Chip,
     pub life: Life,
@@ -131,7 +132,7 @@ pub struct Card {
 }
 
 // One row of the eleven-row table: its tags, mandatory mark, spanning mark, and the lengths that it allows.
-#[derive(Drop)]
+#[derive(Clone, Copy)]
 pub struct Row {
     pub first: u16,
     pub last: u16,
@@ -143,41 +144,41 @@ pub struct Row {
 }
 
 // A grouping's header: its tag, how many bytes it takes itself, and the length that it tells.
-#[derive(Drop)]
+#[derive(Clone, Copy)]
 pub struct Head {
     pub tag: u16,
     pub size: usize,
     pub len: usize,
 }
 
-#[derive(Drop)]
+#[derive(Clone, Copy)]
 pub enum Header {
     Torn,
     Whole(Head),
 }
 
 // Where a record lies in the file area.
-#[derive(Drop)]
+#[derive(Clone, Copy)]
 pub enum Spot {
     Nowhere,
     At { base: usize, size: usize },
 }
 
 // What a rule says: it passes, with a number that later rules go on with, or it refuses by a word.
-#[derive(Drop)]
+#[derive(Clone, Copy)]
 pub enum Verdict {
     Passes(usize),
     Refuses(u16),
 }
 
 // The answers of the calls.
-#[derive(Drop)]
+#[derive(Clone, Copy)]
 pub struct Made {
     pub number: u8,
     pub card: Card,
 }
 
-#[derive(Drop)]
+#[derive(Clone, Copy)]
 pub struct Played {
     pub number: u8,
     pub word: u16,
@@ -185,21 +186,21 @@ pub struct Played {
     pub card: Card,
 }
 
-#[derive(Drop)]
+#[derive(Clone, Copy)]
 pub struct Ran {
     pub number: u8,
     pub count: usize,
     pub card: Card,
 }
 
-#[derive(Drop)]
+#[derive(Clone, Copy)]
 pub struct Written {
     pub number: u8,
     pub count: usize,
 }
 
 // A shown record: its part of the file area, by place and length.
-#[derive(Drop)]
+#[derive(Clone, Copy)]
 pub struct Shown {
     pub number: u8,
     pub start: usize,
@@ -207,7 +208,7 @@ pub struct Shown {
 }
 
 // One pull of the order's reader: a grouping, or which of the two endings.
-#[derive(Drop)]
+#[derive(Clone, Copy)]
 pub enum Pulled {
     Ended,
     Broken,

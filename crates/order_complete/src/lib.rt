@@ -1,4 +1,6 @@
 // Whether an order is complete for a chip: the card's own walk says so.
+#![tactic(auto)]
+
 ghost use Rattle.std.specs.Prelude.{◌≡◌, List, ℕ, ◌≤◌, length};
 ghost use Rattle.model.specs.Command.{is_shut, ready};
 ghost use Rattle.model.specs.Order.{order_limit, complete, challenged_state};

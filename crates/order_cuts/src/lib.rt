@@ -1,4 +1,6 @@
 // Where a command of the cut order ends, and how many there are.
+#![tactic(auto)]
+
 ghost use Rattle.std.specs.Prelude.{◌≡◌, ◌+◌, ◌≤◌, length, drop};
 ghost use Rattle.model.specs.Order.{cut_of, spannable};
 ghost use Rattle.order_cuts.specs.Portions.{unit_portion, grouping_portion, portion_of};
@@ -10,7 +12,7 @@ use model::{Head, Header};
 const DATA_ROOM: usize = 255;
 
 // Where a cutter stands: a place of the order, and how many bytes of a spannable value are still to come there.
-#[derive(Drop)]
+#[derive(Clone, Copy)]
 pub struct Place {
     pub at: usize,
     pub inside: usize,
@@ -18,7 +20,7 @@ pub struct Place {
 
 // How much a command takes at once, and how many bytes of a spannable value are then to come; it takes 0 where the
 // next unit doesn't fit.
-#[derive(Drop)]
+#[derive(Clone, Copy)]
 pub struct Portion {
     pub taken: usize,
     pub inside: usize,

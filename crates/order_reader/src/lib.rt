@@ -1,4 +1,6 @@
 // The order's reader: it keeps the lent order and its place, and gives one grouping a pull.
+#![tactic(auto)]
+
 ghost use Rattle.std.specs.Prelude.{◌≡◌, ◌+◌};
 ghost use Rattle.model.specs.Order.{pull_of};
 ghost use Rattle.order_reader.specs.Reads.{nothing_found, found_at, value_of};
@@ -34,7 +36,7 @@ fn pull_at(order: &[u8], at: usize) -> Pulled
 
 // What a pull finds, in numbers: a grouping's tag and where its value lies, the next pull's place, and which of the
 // two endings there was, 0 for none.
-#[derive(Drop)]
+#[derive(Clone, Copy)]
 pub struct Found {
     pub tag: u16,
     pub start: usize,
@@ -82,14 +84,14 @@ pub fn value_of(order: &[u8], found: Found) -> &[u8]
 }
 
 // A reader keeps the lent order and its place.
-#[derive(Drop)]
+#[derive(Clone, Copy)]
 pub struct Reader<'a> {
     pub order: &'a [u8],
     pub at: usize,
 }
 
 // What one pull hands back: what was found, its value as a part of the order, and the reader of the rest.
-#[derive(Drop)]
+#[derive(Clone, Copy)]
 pub struct Drawn<'a> {
     pub rest: Reader<'a>,
     pub value: &'a [u8],

@@ -1,4 +1,6 @@
 // The writer's records: an order cut, and laid into lent room.
+#![tactic(auto)]
+
 ghost use Rattle.std.specs.Prelude.{◌≡◌, ◌+◌, ◌*◌, ◌≤◌, length};
 ghost use Rattle.lists.specs.Joined.{joined};
 ghost use Rattle.lists.specs.Over.{overwrite};

@@ -1,4 +1,6 @@
 // The writer: an order that is complete for a chip, cut into records.
+#![tactic(auto)]
+
 ghost use Rattle.std.specs.Prelude.{List, ℕ, ◌≤◌, length};
 ghost use Rattle.model.specs.Order.{complete, records_for, no_writing, write_of};
 ghost use Rattle.order_cuts.specs.Cuts.{cuttable};

@@ -1,5 +1,7 @@
 // Text with values in it, laid into lent room. A form is text in which some characters are marks: a mark stands for a
 // value, or for what goes with one.
+#![tactic(auto)]
+
 ghost use Rattle.std.specs.Prelude.{◌≡◌, ◌+◌, ◌≤◌, length};
 ghost use Rattle.print_forms.specs.Room.{Behind};
 

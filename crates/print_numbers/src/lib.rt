@@ -1,4 +1,6 @@
 // Bytes in hexadecimal, numbers in decimal.
+#![tactic(auto)]
+
 ghost use Rattle.std.specs.Prelude.{◌≡◌, ◌+◌, ◌*◌, ◌≤◌, ◌<◌, length};
 ghost use Rattle.lists.specs.Over.{overwrite};
 ghost use Rattle.model.specs.Lines.{hex2, hex4, hex_digit, five, two};

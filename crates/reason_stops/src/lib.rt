@@ -1,5 +1,7 @@
 // Why a grouping of an order is not taken: the first of rules a to h, or of the file table's, that it breaks. The
 // word that refuses it does not tell as much.
+#![tactic(auto)]
+
 ghost use Rattle.std.specs.Prelude.{◌≡◌, ◌+◌, ◌-◌, ◌*◌, ◌≤◌, ◌<◌, length, drop};
 ghost use Rattle.model.specs.Loads.{file_list};
 ghost use Rattle.model.specs.Rules.{room_of};
@@ -20,7 +22,7 @@ const TAG_SIZE: usize = 2;
 // tag. e: no file has the SFI; the file has no such record. f: a value of `len` bytes, where there is room for
 // `most`. g: so many bytes are missing. h: '2100'; the chip's capacity; a descriptor, numbered from 1. Then what the
 // order's end leaves: a value that misses so many bytes; mandatory rows that are missing, where these are taken.
-#[derive(Drop)]
+#[derive(Clone, Copy)]
 pub enum Cause {
     HeaderTorn(usize),
     LengthFfff,
@@ -41,7 +43,7 @@ pub enum Cause {
 }
 
 // What is not taken: where it begins in the order, its tag, the card's word, and the cause.
-#[derive(Drop)]
+#[derive(Clone, Copy)]
 pub struct Stop {
     pub place: usize,
     pub tag: u16,

@@ -1,4 +1,6 @@
 // Why an order is not complete: the first piece of it that the card does not take, or what its end leaves.
+#![tactic(auto)]
+
 ghost use Rattle.std.specs.Prelude.{◌≡◌, List, ℕ, ◌-◌, ◌≤◌, length, drop};
 ghost use Rattle.model.specs.Order.{order_limit, challenged_state};
 ghost use Rattle.walk_course.specs.Steps.{state_of};
@@ -15,7 +17,7 @@ const FRONT_SIZE: usize = 3;
 const NOT_YET: u16 = 0x6985;
 
 // The order is complete, or stops somewhere.
-#[derive(Drop)]
+#[derive(Clone, Copy)]
 pub enum Why {
     Complete,
     Stops(Stop),

@@ -1,4 +1,6 @@
 // A refusal in words: which rule, where in the order, and what was found there. No byte of a value is ever told.
+#![tactic(auto)]
+
 ghost use Rattle.std.specs.Prelude.{◌≡◌, ◌+◌, ◌≤◌, length};
 ghost use Rattle.print_forms.specs.Room.{Behind};
 
@@ -10,7 +12,7 @@ use table_flaws::Flaw;
 const TAG_SIZE: usize = 2;
 
 // What a form is to say: the number of a text in its choice, and the values that the text takes.
-#[derive(Drop)]
+#[derive(Clone, Copy)]
 struct Phrase {
     pub text: u64,
     pub first: u64,

@@ -1,5 +1,7 @@
 // The register: records played one after the other, and a line for each. It owns the card's parts, and changes them
 // in place: what is judged elsewhere is small.
+#![tactic(auto)]
+
 ghost use Rattle.std.specs.Prelude.{◌≡◌, ◌+◌, ◌*◌, ◌/◌, ◌≤◌, ◌<◌, length};
 ghost use Rattle.model.specs.Stored.{area_size};
 ghost use Rattle.theorem_sound.specs.Keeps.{Good};
@@ -14,7 +16,7 @@ use walk_course::Course;
 pub const NUMBERS: u64 = 100_000;
 
 // The card after some records, and the last five digits of the number of events so far.
-#[derive(Drop)]
+#[derive(Clone, Copy)]
 pub struct Entered {
     pub card: Card,
     pub count: u64,

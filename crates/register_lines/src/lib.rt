@@ -1,4 +1,6 @@
 // The lines of a register: one an event, and the last.
+#![tactic(auto)]
+
 ghost use Rattle.std.specs.Prelude.{◌≡◌, [], ◌∷◌, ◌++◌, ◌+◌, ◌≤◌, ◌<◌, min, length};
 ghost use Rattle.lists.specs.Over.{overwrite};
 ghost use Rattle.model.specs.Lines.{line_with, five, two, hex2, hex4, blank, end_of};

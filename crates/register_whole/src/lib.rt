@@ -1,4 +1,6 @@
 // Whether a register is whole, and of a loaded card: a lot that is resumed leaves such a card alone.
+#![tactic(auto)]
+
 ghost use Rattle.std.specs.Prelude.{◌≡◌, ◌+◌, ◌*◌, ◌≤◌, length};
 ghost use Rattle.lists.specs.Bytes.{part, same};
 ghost use Rattle.register_whole.specs.Whole.{ends_as, last_loaded, events_whole};

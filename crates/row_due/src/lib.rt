@@ -1,4 +1,6 @@
 // When a row may come: the order of the rows.
+#![tactic(auto)]
+
 ghost use Rattle.std.specs.Prelude.{◌≡◌, ◌-◌, ◌≤◌, ◌<◌};
 ghost use Rattle.model.specs.Rows.{rising, due};
 ghost use Rattle.model.specs.Rules.{due_row};

@@ -1,4 +1,6 @@
 // The set of rows taken: row r is bit r - 1.
+#![tactic(auto)]
+
 ghost use Rattle.std.specs.Prelude.{◌≡◌, ◌+◌, ◌-◌, ◌≤◌};
 ghost use Rattle.model.specs.Rows.{taken, with_row, taken_of};
 

@@ -1,4 +1,6 @@
 // The eleven-row table as constants, and the mandatory rows that are missing.
+#![tactic(auto)]
+
 ghost use Rattle.std.specs.Prelude.{◌≡◌, ◌+◌, ◌-◌, ◌≤◌, ◌<◌, eqb, take};
 ghost use Rattle.model.specs.Rows.{row_at, row_of, row_table, missing_from, mandatory_missing};
 ghost use Rattle.row_table.specs.Lacking.{lacking};

@@ -1,4 +1,6 @@
 // One grouping, by rules a to h; `values` has f to h.
+#![tactic(auto)]
+
 ghost use Rattle.std.specs.Prelude.{◌≡◌, true, List, eqb, ℕ, ◌+◌, ◌≤◌, ◌<◌, length, drop};
 ghost use Rattle.model.specs.declared.Loading.{Loading};
 ghost use Rattle.model.specs.Rules.{grouping};

@@ -1,4 +1,6 @@
 // Rule h of a grouping that stays whole: its content judged; and kept, once it passed.
+#![tactic(auto)]
+
 ghost use Rattle.std.specs.Prelude.{◌≡◌, List, ℕ, ◌+◌, ◌-◌, ◌*◌, ◌≤◌, ◌<◌, length, drop};
 ghost use Rattle.lists.specs.Bytes.{padded};
 ghost use Rattle.model.specs.Rules.{counter_of, whole};

@@ -1,4 +1,6 @@
 // Rule b: the three queries.
+#![tactic(auto)]
+
 ghost use Rattle.std.specs.Prelude.{◌≡◌, List, ℕ, ◌-◌, ◌<◌, length};
 ghost use Rattle.model.specs.Rules.{query, challenged};
 ghost use Rattle.model.specs.declared.Loading.{Loading};

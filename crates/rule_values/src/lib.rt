@@ -1,4 +1,6 @@
 // A grouping's value, by rules f to h: its length, whether it is whole, its bytes.
+#![tactic(auto)]
+
 ghost use Rattle.std.specs.Prelude.{◌≡◌, true, List, ℕ, ◌+◌, ◌≤◌, ◌<◌, length, drop};
 ghost use Rattle.model.specs.declared.Loading.{Loading};
 ghost use Rattle.model.specs.Stored.{area_size};

@@ -1,4 +1,6 @@
 // Whether a state is sound: a function for each clause, in the paper's order.
+#![tactic(auto)]
+
 ghost use Rattle.std.specs.Prelude.{◌≡◌, ◌≤◌, length};
 ghost use Rattle.model.specs.Sound.{descriptors_ok, rows_ok, table_open, table_placed, secrets_ok, sound};
 ghost use Rattle.sound_open.specs.Parts.{load_part};

@@ -1,4 +1,6 @@
 // The clauses of sound on the card's life.
+#![tactic(auto)]
+
 ghost use Rattle.std.specs.Prelude.{◌≡◌, ◌||◌, eqb};
 ghost use Rattle.model.specs.Sound.{gp_ok, internal_ok, name_ok, selected_ok};
 ghost use Rattle.sound_open.specs.Parts.{life_part};

@@ -1,4 +1,6 @@
 // The clauses of sound on an open value.
+#![tactic(auto)]
+
 ghost use Rattle.std.specs.Prelude.{◌≡◌, ◌&&◌, ◌≤◌, eqb};
 ghost use Rattle.model.specs.Sound.{table_fits, record_fits, pending_fits, some_missing, open_ok};
 ghost use Rattle.sound_open.specs.Parts.{open_part};

@@ -1,1 +1,2 @@
 // The sessions of samples/stored, computed by the definition itself to the text that is stored beside each. No code.
+#![tactic(auto)]

@@ -1,4 +1,6 @@
 // One descriptor of the file table: its fields judged, and beside another one.
+#![tactic(auto)]
+
 ghost use Rattle.std.specs.Prelude.{◌≡◌, ◌<◌};
 ghost use Rattle.table_descriptor.specs.Fields.{ef_fields};
 ghost use Rattle.model.specs.Table.{df_ok, ef_type, clash, counter_in};

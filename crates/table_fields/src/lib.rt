@@ -1,4 +1,6 @@
 // A descriptor's fields: read from its 18 bytes, its access conditions, its size in the file area.
+#![tactic(auto)]
+
 ghost use Rattle.std.specs.Prelude.{◌≡◌, ◌<◌, ◌+◌, ◌*◌, ◌≤◌};
 ghost use Rattle.model.specs.Table.{access_ok, accesses_ok, size_of, sizes_ok, descriptor_of};
 

@@ -1,4 +1,6 @@
 // Which rule of the file table a descriptor breaks, for a message: the word that refuses it does not tell.
+#![tactic(auto)]
+
 ghost use Rattle.std.specs.Prelude.{◌≡◌, ◌+◌, ◌≤◌, take};
 ghost use Rattle.model.specs.Loads.{file_list};
 ghost use Rattle.table_flaws.specs.Flaws.{access_flaw, field_flaw, clash_flaw, total_flaw, ef_flaw, kind_flaw};
@@ -11,7 +13,7 @@ const LAST_SFI: u8 = 0x1E;
 const EF: u8 = 0x04;
 
 // What is wrong with a descriptor. An AC and NKey, and a descriptor before it, are numbered from 1.
-#[derive(Drop)]
+#[derive(Clone, Copy)]
 pub enum Flaw {
     Nothing,
     TooMany,

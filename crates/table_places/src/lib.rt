@@ -1,4 +1,6 @@
 // Where a record lies in the file area: files in table order, records in theirs.
+#![tactic(auto)]
+
 ghost use Rattle.std.specs.Prelude.{◌≡◌, ◌+◌, ◌-◌, ◌*◌, ◌≤◌, ◌<◌, take};
 ghost use Rattle.model.specs.Table.{spot_in, spot_of};
 ghost use Rattle.model.specs.Loads.{file_list};

@@ -1,4 +1,6 @@
 // The file table: a descriptor judged after those before it.
+#![tactic(auto)]
+
 ghost use Rattle.std.specs.Prelude.{◌≡◌, ◌+◌, ◌*◌, ◌≤◌, ◌<◌, take};
 ghost use Rattle.model.specs.Table.{passed, clashes, counter_among, data_ref_ok, ef_ok, rules_ok, total, admit_of};
 ghost use Rattle.model.specs.Table.{table_passes};

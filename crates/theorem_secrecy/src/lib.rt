@@ -1,1 +1,2 @@
 // Theorems over the definition: secrets stay secret. No code.
+#![tactic(auto)]

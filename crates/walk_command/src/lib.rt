@@ -1,5 +1,7 @@
 // One STORE DATA command: an open value's bytes, the groupings by rules a to h, the end. What is judged is small; the
 // loading part is changed here, in place.
+#![tactic(auto)]
+
 ghost use Rattle.std.specs.Prelude.{◌≡◌, List, ℕ, ◌≤◌, length, drop, false};
 ghost use Rattle.model.specs.Stored.{area_size};
 ghost use Rattle.model.specs.Loads.{with_running};
@@ -16,7 +18,7 @@ use model::{Loading, Open, Running, Spot, Verdict};
 use walk_course::Course;
 
 // How the walk over a command's data ended: all of it was taken, a query was asked, or it failed by a word.
-#[derive(Drop)]
+#[derive(Clone, Copy)]
 pub enum End {
     Done,
     Asked(u16),
@@ -24,7 +26,7 @@ pub enum End {
 }
 
 // The end, where the last step began, and the loading part then.
-#[derive(Drop)]
+#[derive(Clone, Copy)]
 pub struct Ended {
     pub end: End,
     pub place: usize,
@@ -143,7 +145,7 @@ pub fn end_word(p: Running) -> u16
 
 // What a command comes to: its word, how far the loading is then, and whether the card locks by it, which drops an
 // open value.
-#[derive(Drop)]
+#[derive(Clone, Copy)]
 pub struct Said {
     pub word: u16,
     pub running: Running,

@@ -1,5 +1,7 @@
 // What a step of a command's walk comes to: small, whatever it judged. The owner of the loading part and of the file
 // area makes the change.
+#![tactic(auto)]
+
 ghost use Rattle.std.specs.Prelude.{◌≡◌, ◌≤◌};
 ghost use Rattle.model.specs.Loads.{running_taken, running_open, held_dropped};
 ghost use Rattle.walk_course.specs.declared.Course.TheVariants.{Failed};
@@ -8,7 +10,7 @@ use model::{Open, Running};
 
 // How a step ends: a value is to be kept, bytes are to be laid in the file area, bytes of '3100' are to be taken, all
 // of them named by places of the data; a query was asked; or it failed by a word.
-#[derive(Drop)]
+#[derive(Clone, Copy)]
 pub enum Course {
     Keeps {
         row: usize,
@@ -25,7 +27,7 @@ pub enum Course {
     Failed(u16),
 }
 
-#[derive(Drop)]
+#[derive(Clone, Copy)]
 pub struct Step {
     pub course: Course,
     pub running: Running,

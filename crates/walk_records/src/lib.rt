@@ -1,4 +1,6 @@
 // The bytes of a record, laid in the file area as they come.
+#![tactic(auto)]
+
 ghost use Rattle.std.specs.Prelude.{◌≡◌, ◌+◌, ◌≤◌};
 ghost use Rattle.model.specs.Stored.{area_size};
 ghost use Rattle.walk_records.specs.Records.{record_run, record_step};

@@ -1,4 +1,6 @@
 // One step of a command: an open value's bytes, or one grouping.
+#![tactic(auto)]
+
 ghost use Rattle.std.specs.Prelude.{◌≡◌, List, ℕ, ◌<◌, length, drop};
 ghost use Rattle.model.specs.declared.Loading.{Loading};
 ghost use Rattle.model.specs.declared.Open.TheVariants.{Record};

@@ -1,4 +1,6 @@
 // Bytes of an open '3100', taken as they come from command to command.
+#![tactic(auto)]
+
 ghost use Rattle.std.specs.Prelude.{◌≡◌, List, [], ℕ, ◌+◌, ◌-◌, ◌≤◌, ◌<◌, min, length, drop, set};
 ghost use Rattle.lists.specs.Over.{overwrite};
 ghost use Rattle.model.specs.declared.Open.TheVariants.{Table};
@@ -12,7 +14,7 @@ ghost use Rattle.walk_table.specs.Bytes.{held_of, table_run, fed_as, Reaches};
 use model::{Descriptor, Loading, Open, Running, TABLE_ROW, Verdict};
 
 // A value's bytes taken, or refused by a word, and the loading part.
-#[derive(Drop)]
+#[derive(Clone, Copy)]
 pub struct Taken {
     pub verdict: Verdict,
     pub load: Loading,
