@@ -1,7 +1,5 @@
 -- `walk_records::record_run`: a record missing nothing is taken (`run_ends`), any other stays open (`run_goes_on`).
-use Prim.Native.Nat.{◌-◌}
 use mathlib.Core.Path.{sym, ◌∙◌}
-use borrow.Author.Rules.{rules}
 use Rattle.walk_records.proofs.Laying.{run_ends, run_goes_on}
 use Rattle.walk_records.proofs.record_run.Goals as goal
 

@@ -1,6 +1,4 @@
 -- `walk_records::record_step`: field by field `record_step`, once `least` and `record_run` say n and the running part.
-use Prim.Native.Nat.{◌-◌}
-use borrow.Author.Rules.{rules}
 use Rattle.walk_records.proofs.record_step.Goals as goal
 
 pub returns : goal.returns
