@@ -1,5 +1,4 @@
 -- `rule_queries::challenge_given`: the three cases of `challenged`: not in 'CC', row 1 due, row 1 not due.
-use borrow.Author.Rules.{rules}
 use Rattle.model.specs.Rules.{challenged}
 use borrow.Author.Tests.{eq-eqb, ne_eqb}
 use Rattle.rule_queries.proofs.challenge_given.Goals as goal

@@ -1,6 +1,5 @@
 -- `rule_queries::queried`: the seven cases of `query`; all bytes are left only at place 0 (`first`, `not_first`).
 -- Behind the third test the query is `alone`, and P1 and the tag decide.
-use borrow.Author.Rules.{rules}
 use Rattle.rule_queries.proofs.Place.{not_first, first, alone}
 use Rattle.model.specs.Rules.{query}
 use borrow.Author.Tests.{eq-eqb, ne_eqb, lt-leb, le-leb}
