@@ -8,53 +8,47 @@ use borrow.Author.Rules.{rules}
 use Rattle.model.specs.Table.{rules_ok}
 use lib.Seq.{length-take-le}
 use borrow.Author.Tests.{lt-ltb, le-ltb, eq-eqb, ne_eqb}
-use Rattle.table_rules.proofs.rules_ok.Statement.{statement}
-use Rattle.table_rules.proofs.rules_ok.Tie as tie
+use Rattle.table_rules.proofs.rules_ok.Goals as goal
 
-returns : tie.Need-returns
+pub returns-then-count-ge-TABLE_LIMIT : goal.returns-then-count-ge-TABLE_LIMIT
 unfolding rules_ok
-returns c =
-    let a = c.before.args in
+returns-then-count-ge-TABLE_LIMIT c =
+    let a = c.args in
     let fits : a.count ≤ length a.files = search rules in
     rw (length-take-le _ _ fits, le-ltb a.count 31 (omega arith))
 
-returns-2 : tie.Need-returns-2
+pub returns-then-count-eq0 : goal.returns-then-count-eq0
 unfolding rules_ok
-returns-2 c =
-    let b = c.before.before.before in
-    let a = b.before.before.before.before.args in
+returns-then-count-eq0 c =
+    let b = c in
+    let a = b.args in
     let fits : a.count ≤ length a.files = search rules in
     rw (
       length-take-le _ _ fits,
       lt-ltb a.count 31 (omega arith),
-      sym b.accesses-ok.ensures ∙ c.before.before.if2.true,
+      sym b.accesses_ok.ensures ∙ c.if-accesses_ok.true,
       eq-eqb a.count 0 (omega arith),
     )
-    c.df-ok.ensures
+    c.df_ok.ensures
 
-returns-3 : tie.Need-returns-3
+pub returns-then-accesses_ok : goal.returns-then-accesses_ok
 unfolding rules_ok
-returns-3 c =
-    let b = c.before.before.before in
-    let a = b.before.before.before.before.args in
+returns-then-accesses_ok c =
+    let b = c in
+    let a = b.args in
     let fits : a.count ≤ length a.files = search rules in
     rw (
       length-take-le _ _ fits,
       lt-ltb a.count 31 (omega arith),
-      sym b.accesses-ok.ensures ∙ c.before.before.if2.true,
-      ne_eqb a.count 0 c.before.if3.false,
+      sym b.accesses_ok.ensures ∙ c.if-accesses_ok.true,
+      ne_eqb a.count 0 c.if-count-eq0.false,
     )
-    c.ef-ok.ensures
+    c.ef_ok.ensures
 
-returns-4 : tie.Need-returns-4
+pub returns : goal.returns
 unfolding rules_ok
-returns-4 c =
-    let b = c.before in
-    let a = b.before.before.before.before.args in
+returns c =
+    let b = c in
+    let a = b.args in
     let fits : a.count ≤ length a.files = search rules in
-    rw (length-take-le _ _ fits, lt-ltb a.count 31 (omega arith), sym b.accesses-ok.ensures ∙ c.if2.false)
-
-pub rules_ok_spec : {M : Type 1} → statement M
-rules_ok_spec =
-    tie.close
-    (tie.spec returns (search rules) (search rules) returns-2 (search rules) returns-3 returns-4)
+    rw (length-take-le _ _ fits, lt-ltb a.count 31 (omega arith), sym b.accesses_ok.ensures ∙ c.if-accesses_ok.false)
