@@ -7,23 +7,19 @@ use lib.Seq.{length-take-le}
 use borrow.Author.Tests.{lt-ltb, le-ltb}
 use Rattle.table_flaws.specs.Flaws.{flaw_of}
 use borrow.Author.Rules.{rules}
-use Rattle.table_flaws.proofs.flaw_in.Statement.{statement}
-use Rattle.table_flaws.proofs.flaw_in.Tie as tie
+use Rattle.table_flaws.proofs.flaw_in.Goals as goal
 
-returns : tie.Need-returns
+pub returns-then-count-ge-TABLE_LIMIT : goal.returns-then-count-ge-TABLE_LIMIT
 unfolding flaw_of
-returns c =
-    let a = c.before.args in
+returns-then-count-ge-TABLE_LIMIT c =
+    let a = c.args in
     let fits : a.count ≤ length a.files = search rules in
     rw (length-take-le _ _ fits, le-ltb a.count 31 (omega arith))
 
-returns-2 : tie.Need-returns-2
+pub returns : goal.returns
 unfolding flaw_of
-returns-2 c =
-    let a = c.before.before.before.before.before.args in
+returns c =
+    let a = c.args in
     let fits : a.count ≤ length a.files = search rules in
     let few = lt-ltb a.count 31 (omega arith) in
-    rw (c.access-flaw.ensures, c.before.kind-flaw.ensures, length-take-le _ _ fits, few)
-
-pub flaw_in_spec : {M : Type 1} → statement M
-flaw_in_spec = tie.close (tie.spec returns (search rules) (search rules) returns-2)
+    rw (c.access_flaw.ensures, c.kind_flaw-later.ensures, length-take-le _ _ fits, few)
