@@ -2,7 +2,6 @@
 -- `long_ffff` and `long_form_lem`, which read the header by its place in the whole slice.
 use mathlib.Core.Path.{sym}
 use native.Mathlib.Omega.{arith}
-use borrow.Author.Rules.{rules}
 use Rattle.header.proofs.Places.{torn_short, short_form, torn_long, long_ffff, long_form_lem}
 use Rattle.header.proofs.header_at.Goals as goal
 
