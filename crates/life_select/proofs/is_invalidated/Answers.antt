@@ -4,14 +4,12 @@ use mathlib.Core.Path.{◌≡◌, refl}
 use mathlib.Core.List.{List, [], ◌∷◌}
 use native.Mathlib.Omega.{arith}
 use lib.ListN.{get_or}
-use borrow.Author.Rules.{rules}
 use Rattle.model.specs.declared.Descriptor.{Descriptor}
 use Rattle.model.specs.Stored.{no_file}
 use borrow.Author.Tests.{lt-ltb}
 use Rattle.lists.specs.Choice.{cases}
 use Rattle.model.specs.Events.{invalidated}
-use Rattle.life_select.proofs.is_invalidated.Statement.{statement}
-use Rattle.life_select.proofs.is_invalidated.Tie as tie
+use Rattle.life_select.proofs.is_invalidated.Goals as goal
 
 -- what the language reads past an array's end (never read): no bytes stand in its lists
 abbrev past_end : Descriptor
@@ -34,15 +32,12 @@ df-status : (files : List Descriptor) → (get_or files 0 past_end).status ≡ (
 df-status [] = refl
 df-status (df ∷ files) = refl
 
-returns : tie.Need-returns
+pub returns-then-c-lt1 : goal.returns-then-c-lt1
 unfolding invalidated
-returns c = search cases
+returns-then-c-lt1 c = search cases
 
-returns-2 : tie.Need-returns-2
+pub returns : goal.returns
 unfolding invalidated
-returns-2 c =
-    let a = c.before.before.before.before.before.args.c in
+returns c =
+    let a = c.args.c in
     rw (df-status a.loading.files, lt-ltb 0 a.loading.count (omega arith))
-
-pub is_invalidated_spec : {M : Type 1} → statement M
-is_invalidated_spec = tie.close (tie.spec returns (search rules) returns-2)
