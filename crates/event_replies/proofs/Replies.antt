@@ -9,7 +9,7 @@ use Rattle.lists.specs.Over.{over_none}
 use Rattle.model.specs.declared.Card.{Card}
 use Rattle.model.specs.declared.Played.{Played}
 use Rattle.model.specs.Stored.{event_in, is_kind, padded_zero}
-use Rattle.model.specs.Events.{Reply, says, event}
+use Rattle.model.specs.Events.{Reply, event}
 use Rattle.model.specs.Session.{Turn, refused_by, replied, turn_of}
 use Rattle.answers.specs.Answers.{Answers}
 use Rattle.event_kinds.specs.Faults.{fault, fault_in}

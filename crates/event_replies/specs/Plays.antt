@@ -1,7 +1,6 @@
 -- What the answer of a call on a card says.
 use Rattle.std.specs.Prelude.{ℕ, ◌≡◌, List, length}
 use Rattle.lists.specs.Over.{overwrite}
-use Rattle.model.specs.declared.Card.{Card}
 use Rattle.model.specs.declared.Played.{Played}
 use Rattle.model.specs.Session.{Turn}
 

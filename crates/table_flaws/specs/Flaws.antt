@@ -1,5 +1,5 @@
 -- Which rule of the file table a descriptor breaks: the first, in the order in which the table's rules stand.
-use Rattle.std.specs.Prelude.{ℕ, ◌+◌, Bool, true, false, cond, ◌||◌, List, [], ◌∷◌, eqb, ltb, leb, length}
+use Rattle.std.specs.Prelude.{ℕ, ◌+◌, Bool, false, cond, ◌||◌, List, [], ◌∷◌, eqb, ltb, leb, length}
 use Rattle.lists.specs.Bytes.{byte_at}
 use Rattle.model.specs.declared.Descriptor.{Descriptor}
 use Rattle.model.specs.declared.Verdict.{Verdict}

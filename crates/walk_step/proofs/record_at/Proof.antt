@@ -27,7 +27,7 @@ returns c =
     let k : At c.before.before.spot.given.0.0 c.before.before.spot.given.0.1.0 ≡ At base size =
     sym c.before.before.spot.given.1 ∙ q in
     let j : c.before.before.spot.given.0.0 ≡ base = cc in
-    c.record_step_lem.ensures ∙ ap (λ (x : ℕ). record_step s.args.p x s.args.tag s.args.written
+    c.record_step.ensures ∙ ap (λ (x : ℕ). record_step s.args.p x s.args.tag s.args.written
     s.args.missing s.args.len s.args.at) j
 
 returns-2 : tie.Need-returns-2
