@@ -1,7 +1,7 @@
 // The parts of a call, taken from the input one behind the other. `fault` says what is wrong with the call so far:
 // behind the first fault nothing more is taken.
 ghost use Rattle.std.specs.Prelude.{◌≡◌, ◌+◌, ◌*◌, ◌≤◌, length};
-ghost use Rattle.io.specs.Counts.{IsPrefixLen};
+ghost use Rattle.io_edge.specs.Counts.{IsPrefixLen};
 
 use crate::numbers::two_at;
 

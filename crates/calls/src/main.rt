@@ -1,5 +1,7 @@
 // The program `calls [--tell] [FILE]`: stored calls are read, each is made, and everything that came back is a line on
 // standard output. The tests compare it character by character with the second program's.
+#![tactic(auto)]
+
 mod card_in;
 mod card_out;
 mod input;

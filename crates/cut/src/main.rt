@@ -1,5 +1,7 @@
 // The program `cut`: a job in, as `job` takes it; on standard output the session that `replay` reads: the chip record,
 // INSTALL '0C', SELECT, and the writer's records. A refusal writes one line to standard error alone.
+#![tactic(auto)]
+
 ghost use Rattle.std.specs.Prelude.{◌≡◌, length};
 
 // The chip record, and the longest session of a complete order: 47 records.

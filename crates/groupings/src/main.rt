@@ -1,6 +1,8 @@
 // The program `groupings [--tell] [--job] [--hex] [FILE]`: an order, or a job's, is read, as bytes or as hexadecimal
 // text, a line a pull is written to standard output, and last which ending it has. It streams: an order of any
 // length, in the memory of one window and one buffer.
+#![tactic(auto)]
+
 ghost use Rattle.std.specs.Prelude.{◌≡◌, ◌+◌, ◌*◌, ◌<◌, ◌≤◌, length};
 
 use job_text::{Mode, Place, Reading};

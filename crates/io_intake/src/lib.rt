@@ -1,8 +1,10 @@
 // A job from its file, as bytes or as hexadecimal text, in lent room; and what is said where it cannot be read or is
+#![tactic(auto)]
+
 use model::{CAPACITY, CHIP_SIZE, ORDER_LIMIT};
 // refused.
 ghost use Rattle.std.specs.Prelude.{◌≡◌, ◌+◌, ◌≤◌, length};
-ghost use Rattle.io.specs.Counts.{IsPrefixLen};
+ghost use Rattle.io_edge.specs.Counts.{IsPrefixLen};
 
 use job_text::{Mode, Reading};
 use reason_stops::{Cause, Stop};

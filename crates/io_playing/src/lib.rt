@@ -1,5 +1,7 @@
 // A session, played block by block: any number of events, in the memory of one block. What `replay` and `show` share,
 // and how `trace` begins.
+#![tactic(auto)]
+
 ghost use Rattle.std.specs.Prelude.{◌≡◌, ◌+◌, ◌*◌, ◌/◌, ◌≤◌, ◌<◌, length};
 ghost use Rattle.lists.specs.Bytes.{zeros};
 ghost use Rattle.model.specs.Stored.{area_size};

@@ -1,5 +1,7 @@
 // What the programs that play a session say of it on standard error, as its records go by: a chip record or an event
 // that is refused, and a last record that is not whole. Each line begins with a label, as `replay: FILE`.
+#![tactic(auto)]
+
 ghost use Rattle.std.specs.Prelude.{◌≡◌, ◌+◌, ◌*◌, ◌/◌, ◌≤◌, length};
 
 use model::{CHIP_SIZE, DATA_PLACE, LINE_SIZE, RECORD_SIZE};

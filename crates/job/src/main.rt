@@ -1,5 +1,7 @@
 // The program `job`: one job in, its register out. A job is a chip record and an order, as bytes or as hexadecimal
 // text. A
+#![tactic(auto)]
+
 use model::{END_SIZE, LINE_SIZE};
 // refusal is one line on standard error, and nothing goes to standard output then.
 ghost use Rattle.std.specs.Prelude.{◌≡◌, ◌≤◌, length};

@@ -1,6 +1,6 @@
 -- Bytes of a list, and lists of bytes.
 use Rattle.std.specs.Prelude.{ℕ, zero, suc, ◌+◌, ◌-◌, ◌*◌, ◌≤◌, ◌<◌, ◌≡◌, refl, Bool, true, false, ◌&&◌, List, [], ◌∷◌, ◌++◌, eqb, length, get_or, take, drop, replicate}
-use Rattle.std.proofs.Common.{ap, sym, ◌∙◌, append-nil, add-one, arith, drop_of_length-le, drop-cons, eq-eqb, ne_eqb, eqb-true}
+use Rattle.std.proofs.Common.{ap, append-nil, add-one, arith, drop_of_length-le, drop-cons, eq-eqb, ne_eqb, eqb-true}
 use Rattle.std.proofs.Math.Nat.{sub_self}
 use Rattle.lists.specs.Truth.{and_false, never, both}
 

@@ -1,6 +1,6 @@
 -- As much of a list as there is: the smaller of a count and its length.
-use Rattle.std.specs.Prelude.{ℕ, zero, suc, ◌+◌, ◌-◌, ◌≤◌, min, ◌≡◌, refl, List, [], ◌∷◌, length, take, drop}
-use Rattle.std.proofs.Common.{ap, sym, ◌∙◌, arith, length-drop, length-take, drop-drop}
+use Rattle.std.specs.Prelude.{ℕ, zero, suc, ◌+◌, ◌-◌, min, ◌≡◌, List, [], ◌∷◌, length, take, drop}
+use Rattle.std.proofs.Common.{ap, arith, length-drop, length-take, drop-drop}
 use Rattle.lists.specs.Bytes.{part}
 
 pub drop_least : (m : ℕ) (l : List ℕ) → drop (min m (length l)) l ≡ drop m l

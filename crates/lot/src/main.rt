@@ -1,5 +1,7 @@
 // The program `lot`: many jobs in one process. Names of job files on standard input, a register each in a folder, a
 // line a job on standard output, and a last line that counts them.
+#![tactic(auto)]
+
 mod line;
 mod names;
 mod options;

@@ -1,6 +1,6 @@
 // Where a job's register goes: OUT/BASE.register, and before it is whole OUT/.BASE.register.part, in the same folder.
 ghost use Rattle.std.specs.Prelude.{◌≡◌, ◌+◌, ◌≤◌, ◌<◌, ◌^◌, length};
-ghost use Rattle.io.specs.Counts.{IsPrefixLen};
+ghost use Rattle.io_edge.specs.Counts.{IsPrefixLen};
 
 const SLASH: u8 = 0x2F;
 

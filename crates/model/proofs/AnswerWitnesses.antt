@@ -6,12 +6,10 @@ use lib.Dec.{T}
 use Rattle.lists.specs.Bytes.{zeros}
 use Rattle.model.specs.declared.Open.TheVariants.{Shut}
 use Rattle.model.specs.declared.Card.{Card}
-use Rattle.model.specs.declared.Life.{Life}
-use Rattle.model.specs.declared.Loading.{Loading}
 use Rattle.model.specs.Stored.{Event}
 use Rattle.model.proofs.Scenes.{Bytes, event, df, ef, linear}
-use Rattle.model.proofs.Tables.{every, rising, tabled}
-use Rattle.model.proofs.Cards.{Case, on, gives, replies, card_of, life_in, card_in, running_of, loading_of, carded}
+use Rattle.model.proofs.Tables.{every, rising}
+use Rattle.model.proofs.Cards.{on, gives, replies, card_of, life_in, running_of, loading_of, carded}
 
 -- at '07' with a name of n bytes from '50' on, and a table
 abbrev pub named : ℕ → ℕ → Bool → List Bytes → Card

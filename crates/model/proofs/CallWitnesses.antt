@@ -3,14 +3,14 @@ use Prim.Native.Nat.{ℕ}
 use mathlib.Core.Bool.{Bool, true, false, ◌&&◌}
 use mathlib.Core.List.{List, [], ◌∷◌, ◌++◌}
 use lib.Dec.{T, eqb}
-use lib.ListN.{length, take, drop}
-use Rattle.lists.specs.Bytes.{same, zeros, part}
+use lib.ListN.{length, drop}
+use Rattle.lists.specs.Bytes.{same, zeros}
 use Rattle.model.specs.declared.Card.{Card}
 use Rattle.model.specs.declared.Open.TheVariants.{Shut, Table}
 use Rattle.model.specs.Stored.{record_of}
 use Rattle.model.specs.Session.{play_of, run_of, shown_of, part_shown}
-use Rattle.model.proofs.Scenes.{Bytes, event, name, df, ef, linear}
-use Rattle.model.proofs.Tables.{every, rising, but, card_numbers, tabled}
+use Rattle.model.proofs.Scenes.{Bytes, event, df, ef, linear}
+use Rattle.model.proofs.Tables.{every, rising, but, card_numbers}
 use Rattle.model.proofs.Cards.{card_of, life_in, running_of, loading_of, carded}
 
 -- counters 11 x 1, linear 29 x 3, '08', binary of 300 bytes, linear without an SFI

@@ -15,7 +15,7 @@ use Rattle.model.specs.declared.Life.{Life}
 use Rattle.model.specs.declared.Loading.{Loading}
 use Rattle.model.specs.declared.Card.{Card}
 use Rattle.model.specs.Stored.{Event}
-use Rattle.model.specs.Events.{Reply, event}
+use Rattle.model.specs.Events.{event}
 use Rattle.model.proofs.Scenes.{Bytes, name, df}
 use Rattle.model.proofs.Tables.{rising, files_of, card_numbers, tabled}
 

@@ -1,6 +1,6 @@
 -- "File table", computed: for each rule a descriptor that only this rule refuses, beside its neighbours that pass.
 use Prim.Native.Nat.{ℕ, ◌+◌}
-use mathlib.Core.Bool.{Bool, true}
+use mathlib.Core.Bool.{Bool}
 use mathlib.Core.List.{List, [], ◌∷◌}
 use lib.Dec.{T, eqb}
 use lib.ListN.{replicate}

@@ -1,16 +1,15 @@
 -- "Stored forms", computed: the chip record and its refusals, every field of a fresh card, the event record, kinds and
 -- padding at both sides.
 use Prim.Native.Nat.{ℕ}
-use mathlib.Core.Bool.{Bool, true, not}
+use mathlib.Core.Bool.{Bool, not}
 use mathlib.Core.List.{List, [], ◌∷◌, ◌++◌}
 use lib.Dec.{T, eqb}
-use lib.ListN.{length, drop}
+use lib.ListN.{drop}
 use Rattle.lists.specs.Bytes.{same, zeros}
-use Rattle.model.specs.declared.Chip.{Chip}
-use Rattle.model.specs.Stored.{Event, chip_of, chip_form, event_in, is_kind, padded_zero, record_of}
+use Rattle.model.specs.Stored.{chip_of, chip_form, event_in, is_kind, padded_zero, record_of}
 use Rattle.model.specs.Session.{fresh_of}
 use Rattle.model.proofs.Scenes.{Bytes, event}
-use Rattle.model.proofs.Tables.{every, rising, but, chip_numbers, card_numbers, tabled}
+use Rattle.model.proofs.Tables.{every, rising, but, card_numbers, tabled}
 
 -- a chip record whose bytes are 1, 2, .. 37
 abbrev pub chip_bytes : Bytes

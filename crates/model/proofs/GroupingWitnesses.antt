@@ -1,7 +1,7 @@
 -- Rules a to g, computed as the words of single commands: queries by place and P1, tags, the order of the rules, and
 -- values cut short; and rule h of '2100' at the edges of capacity and of what is asked.
 use Prim.Native.Nat.{ℕ, ◌-◌}
-use mathlib.Core.Bool.{Bool, true, false, ◌&&◌}
+use mathlib.Core.Bool.{Bool, true, ◌&&◌}
 use mathlib.Core.List.{List, [], ◌∷◌, ◌++◌}
 use lib.Dec.{T, eqb}
 use lib.ListN.{replicate}
@@ -10,8 +10,8 @@ use Rattle.model.specs.declared.Open.TheVariants.{Shut}
 use Rattle.model.specs.declared.Card.{Card}
 use Rattle.model.specs.Events as Said
 use Rattle.model.proofs.Scenes.{Bytes, event, df, linear, serial, startup}
-use Rattle.model.proofs.Tables.{every, but, tabled}
-use Rattle.model.proofs.Cards.{chip_made, card_of, life_in, running_of, loading_of, small_area, carded}
+use Rattle.model.proofs.Tables.{every, but}
+use Rattle.model.proofs.Cards.{card_of, life_in, running_of, loading_of, small_area, carded}
 
 -- a card at '07', selected, in an internal state with rows, the DF and a linear file listed
 abbrev pub at : ℕ → ℕ → Card

@@ -1,7 +1,7 @@
 -- A grouping's header, computed at the edges of both length forms, and the order's reader with its two endings.
 use Prim.Native.Nat.{ℕ}
-use mathlib.Core.Bool.{Bool, true}
-use mathlib.Core.List.{List, [], ◌∷◌, ◌++◌}
+use mathlib.Core.Bool.{Bool}
+use mathlib.Core.List.{List, [], ◌∷◌}
 use lib.Dec.{T}
 use Rattle.lists.specs.Bytes.{same, zeros}
 use Rattle.model.specs.Header.{header_of}

@@ -1,16 +1,14 @@
 -- INSTALL, computed: both forms at every length's and every tail byte's edge, every P1, and what is kept of it.
 use Prim.Native.Nat.{ℕ, ◌-◌}
-use mathlib.Core.Bool.{Bool, true, false, ◌&&◌}
+use mathlib.Core.Bool.{Bool, false, ◌&&◌}
 use mathlib.Core.List.{List, [], ◌∷◌, ◌++◌}
 use lib.Dec.{T, eqb}
-use lib.ListN.{length, replicate}
 use Rattle.lists.specs.Bytes.{same, zeros}
 use Rattle.model.specs.declared.Card.{Card}
-use Rattle.model.specs.declared.Life.{Life}
 use Rattle.model.specs.Events.{Reply}
 use Rattle.model.specs.Events as Said
-use Rattle.model.proofs.Scenes.{Bytes, event, name, install_data, selectable_data}
-use Rattle.model.proofs.Tables.{every, rising, but, card_numbers, tabled}
+use Rattle.model.proofs.Scenes.{Bytes, event, install_data, selectable_data}
+use Rattle.model.proofs.Tables.{every, rising, but, card_numbers}
 use Rattle.model.proofs.Cards.{card_of, shut_in, card_in, absent_card, small_area, carded}
 
 -- a life in GP g, not selected, with a name of n bytes from '50' on

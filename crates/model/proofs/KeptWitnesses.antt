@@ -4,12 +4,11 @@ use Prim.Native.Nat.{ℕ, ◌-◌}
 use mathlib.Core.Bool.{Bool, true, false}
 use mathlib.Core.List.{List, [], ◌∷◌, ◌++◌}
 use lib.Dec.{T, eqb}
-use lib.ListN.{length, set, replicate}
+use lib.ListN.{set, replicate}
 use Rattle.lists.specs.Bytes.{zeros}
 use Rattle.model.specs.declared.Secret.{Secret}
 use Rattle.model.specs.declared.Open.TheVariants.{Shut, Table, Record}
 use Rattle.model.specs.declared.Card.{Card}
-use Rattle.model.specs.declared.Loading.{Loading}
 use Rattle.model.specs.declared.Verdict.TheVariants.{Passes, Refuses}
 use Rattle.model.specs.Loads.{State}
 use Rattle.model.specs.Rules.{Result, went, asked, failed, judged, unless, does, rule_b, rule_c, kept, described}
@@ -17,8 +16,8 @@ use Rattle.model.specs.Rules.{table_bytes, in_table}
 use Rattle.model.specs.Stages.{from_g}
 use Rattle.model.specs.Command.{walk, the_end}
 use Rattle.model.proofs.Scenes.{Bytes, event, df, serial, startup, counter, key}
-use Rattle.model.proofs.Tables.{every, rising, verdict_number, tabled}
-use Rattle.model.proofs.Cards.{Case, on, replies, secrets_made, blank_file, card_of, life_in, running_of, loading_of}
+use Rattle.model.proofs.Tables.{every, rising, verdict_number}
+use Rattle.model.proofs.Cards.{on, replies, secrets_made, blank_file, card_of, life_in, running_of, loading_of}
 use Rattle.model.proofs.Cards.{shut_in, small_area, carded}
 
 -- a card in '5A' with rows and these facts and secrets

@@ -1,5 +1,5 @@
 -- Laws of the definition that more than one layer goes by.
-use Prim.Native.Nat.{ℕ, zero, suc, ◌≤◌, ◌%◌}
+use Prim.Native.Nat.{ℕ, zero, suc, ◌≤◌}
 use mathlib.Core.Path.{◌≡◌, refl, ap}
 use mathlib.Core.Bool.{true, not, ◌&&◌}
 use mathlib.Core.List.{List, [], ◌∷◌}

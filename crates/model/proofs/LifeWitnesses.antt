@@ -6,7 +6,7 @@ use lib.Dec.{T}
 use Rattle.model.specs.declared.Card.{Card}
 use Rattle.model.specs.Stored.{Event}
 use Rattle.model.proofs.Scenes.{Bytes, event, name, select, install, install_data, selectable_data}
-use Rattle.model.proofs.Tables.{every, rising, tabled}
+use Rattle.model.proofs.Tables.{every, rising}
 use Rattle.model.proofs.Cards.{Case, on, gives, replies, card_in, absent_card, carded}
 
 -- the events that are tried; "another" is one of another name, "misformed" one whose data are of another P1's form

@@ -1,6 +1,5 @@
 -- The lines of `replay`, computed: every digit, five digits, kinds over 99, counts of rows, refused chips and records.
-use Prim.Native.Nat.{ℕ}
-use mathlib.Core.Bool.{Bool, true}
+use mathlib.Core.Bool.{Bool}
 use mathlib.Core.List.{List, [], ◌∷◌, ◌++◌}
 use lib.Dec.{T}
 use lib.ListN.{take, drop}

@@ -3,11 +3,10 @@ use Prim.Native.Nat.{ℕ}
 use mathlib.Core.Bool.{Bool, true, false, not}
 use mathlib.Core.List.{List, [], ◌∷◌}
 use lib.Dec.{T}
-use Rattle.model.specs.declared.Open.{Open}
 use Rattle.model.specs.declared.Open.TheVariants.{Shut, Table, Record}
 use Rattle.model.specs.Sound.{sound_with}
 use Rattle.model.proofs.Scenes.{Bytes, df, ef, linear}
-use Rattle.model.proofs.Tables.{every, tabled}
+use Rattle.model.proofs.Tables.{every}
 use Rattle.model.proofs.Cards.{life_in, carded}
 use Rattle.model.proofs.SoundWitnesses.{part, small}
 

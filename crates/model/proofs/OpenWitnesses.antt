@@ -15,7 +15,7 @@ use Rattle.model.specs.Stored.{Event}
 use Rattle.model.specs.Loads.{with_open, held_dropped, with_dropped}
 use Rattle.model.specs.Events as Said
 use Rattle.model.proofs.Scenes.{Bytes, event, name, df, ef, linear}
-use Rattle.model.proofs.Tables.{every, rising, but, card_numbers, tabled}
+use Rattle.model.proofs.Tables.{every, rising, but, card_numbers}
 use Rattle.model.proofs.Cards.{card_of, life_in, running_of, loading_of, carded}
 
 -- an event on a card and an area: the word, the card and the area after it

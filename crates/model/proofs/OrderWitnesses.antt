@@ -1,17 +1,17 @@
 -- "The order and its cutting", computed: complete and each way not to be, packing at 254, 255 and 256, the writer's
 -- records byte by byte, and its numbers in their order.
 use Prim.Native.Nat.{ℕ}
-use mathlib.Core.Bool.{Bool, true, not, ◌&&◌}
+use mathlib.Core.Bool.{Bool, not, ◌&&◌}
 use mathlib.Core.List.{List, [], ◌∷◌, ◌++◌}
 use lib.Dec.{T, eqb}
 use lib.ListN.{length, get_or, take, drop, replicate}
 use Rattle.lists.specs.Bytes.{same, zeros}
-use Rattle.model.specs.Rules.{Result, asked, failed}
+use Rattle.model.specs.Rules.{asked, failed}
 use Rattle.model.specs.Order.{challenged_state, finished, complete, cut_of, write_of}
 use Rattle.model.proofs.Scenes.{Bytes, chip, challenge, traceability, status, serial, startup, counter, key}
 use Rattle.model.proofs.Scenes.{table, df, linear}
 use Rattle.model.proofs.Examples.{lengths_of, brimful}
-use Rattle.model.proofs.Tables.{every, rising, but, tabled}
+use Rattle.model.proofs.Tables.{every, but, tabled}
 
 -- the mandatory groupings but for '9484'
 abbrev pub start : Bytes

@@ -1,6 +1,6 @@
 -- "File table", computed: '08' references, sizes and their total at 4,096, whole tables, and where each record lies.
 use Prim.Native.Nat.{ℕ}
-use mathlib.Core.Bool.{Bool, true, not}
+use mathlib.Core.Bool.{Bool, not}
 use mathlib.Core.List.{List, [], ◌∷◌}
 use lib.Dec.{T, eqb}
 use Rattle.lists.specs.Bytes.{same}

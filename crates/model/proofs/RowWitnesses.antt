@@ -1,6 +1,6 @@
 -- "The eleven-row table", computed: tags at both sides, marks and lengths of each row, and when a row may come.
 use Prim.Native.Nat.{ℕ}
-use mathlib.Core.Bool.{Bool, true, not}
+use mathlib.Core.Bool.{Bool, not}
 use mathlib.Core.List.{List, [], ◌∷◌}
 use lib.Dec.{T, eqb}
 use Rattle.lists.specs.Bytes.{same}

@@ -1,7 +1,7 @@
 -- "Sound means", computed: for each clause a card just sound, and the same card with that one clause broken.
 use Prim.Native.Nat.{ℕ, zero, suc}
 use mathlib.Core.Bool.{Bool, true, false, not}
-use mathlib.Core.List.{List, [], ◌∷◌, ◌++◌}
+use mathlib.Core.List.{List, [], ◌∷◌}
 use lib.Dec.{T}
 use lib.ListN.{set}
 use Rattle.lists.specs.Bytes.{zeros}
@@ -12,7 +12,7 @@ use Rattle.model.specs.declared.Life.{Life}
 use Rattle.model.specs.declared.Loading.{Loading}
 use Rattle.model.specs.Sound.{sound_with}
 use Rattle.model.proofs.Scenes.{Bytes, df, ef, linear}
-use Rattle.model.proofs.Tables.{every, but, tabled}
+use Rattle.model.proofs.Tables.{every, but}
 use Rattle.model.proofs.Cards.{absent_life, life_in, running_of, loading_of, carded}
 
 -- the loading part in an internal state, with rows, an open value and a table

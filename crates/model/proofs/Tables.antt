@@ -1,6 +1,6 @@
 -- Shapes of the tables of witnesses: claims that all hold, and what the definition says as plain numbers to compare.
 use Prim.Native.Nat.{ℕ, zero, suc}
-use mathlib.Core.Bool.{Bool, true, false, cond, ◌&&◌}
+use mathlib.Core.Bool.{Bool, true, cond, ◌&&◌}
 use mathlib.Core.List.{List, [], ◌∷◌, ◌++◌}
 use lib.ListN.{set}
 use Rattle.model.specs.declared.Chip.{Chip}

@@ -1,6 +1,6 @@
 -- Two loadings that differ in every byte of every secret, computed: nothing that can be seen tells them apart, and
 -- the secrets do.
-use Prim.Native.Nat.{ℕ, ◌+◌}
+use Prim.Native.Nat.{ℕ}
 use mathlib.Core.Bool.{Bool, true, false, ◌&&◌}
 use mathlib.Core.List.{List, [], ◌∷◌, ◌++◌}
 use lib.Dec.{T, eqb}

@@ -1,6 +1,6 @@
 -- A witness for each status word of document 01 and for each number 1 to 11, computed: no refusal of the definition
 -- is out of reach.
-use Prim.Native.Nat.{ℕ, ◌+◌}
+use Prim.Native.Nat.{ℕ}
 use mathlib.Core.Bool.{Bool, true, ◌&&◌}
 use mathlib.Core.List.{List, [], ◌∷◌, ◌++◌}
 use lib.Dec.{T, eqb}
@@ -11,9 +11,9 @@ use Rattle.model.specs.Stored.{area_size, Event, record_of}
 use Rattle.model.specs.Session.{fresh_of, play_of, run_of, shown_of}
 use Rattle.model.specs.Order.{write_of}
 use Rattle.model.proofs.Computed.{computed}
-use Rattle.model.proofs.Scenes.{Bytes, chip, blank_card, event, name, selectable_data, install, select, command}
+use Rattle.model.proofs.Scenes.{Bytes, chip, blank_card, event, selectable_data, install, select, command}
 use Rattle.model.proofs.Scenes.{traceability, status, serial, startup, table, df, ef, linear, begun, asked}
-use Rattle.model.proofs.Scenes.{loads, loaded, turns, end_of, words, number}
+use Rattle.model.proofs.Scenes.{loads, loaded, turns, end_of}
 
 -- a session that a fresh card of capacity 10 ends with a word, in a pair of states
 pub record Last : Type 0 where

@@ -1,10 +1,10 @@
 -- One STORE DATA command: an open value's bytes, the groupings, the end, and what an error leaves.
-use Rattle.std.specs.Prelude.{ℕ, zero, suc, Bool, true, false, cond, not, ◌&&◌, ◌||◌, List, [], ◌∷◌, length}
+use Rattle.std.specs.Prelude.{ℕ, zero, suc, Bool, true, false, cond, not, ◌&&◌, List, [], ◌∷◌, length}
 use Rattle.model.specs.declared.Open.{Open}
 use Rattle.model.specs.declared.Open.TheVariants.{Shut, Table, Record}
 use Rattle.model.specs.Rows.{mandatory_missing}
 use Rattle.model.specs.Loads.{State, with_internal, changed}
-use Rattle.model.specs.Rules.{Result, went, asked, failed, Rule, thence, ◌>>=◌, ◌>>◌, bit8, fed, grouping}
+use Rattle.model.specs.Rules.{went, failed, Rule, ◌>>=◌, ◌>>◌, bit8, fed, grouping}
 
 -- groupings end to end; a grouping has at least a header, so as many turns as there are bytes are enough
 unfoldable pub walk : ℕ → ℕ → ℕ → ℕ → List ℕ → Rule ℕ

@@ -1,13 +1,11 @@
 -- "Events": every kind in every state.
 use Rattle.std.specs.Prelude.{ℕ, ◌+◌, ◌-◌, Bool, true, false, cond, not, ◌&&◌, ◌||◌, List, [], ◌∷◌, ◌++◌, eqb, ltb, leb, length, get_or, take, drop}
 use Rattle.lists.specs.Bytes.{byte_at, part, zeros, padded, same}
-use Rattle.model.specs.declared.Chip.{Chip}
-use Rattle.model.specs.declared.Descriptor.{Descriptor}
 use Rattle.model.specs.declared.Life.{Life}
 use Rattle.model.specs.declared.Loading.{Loading}
 use Rattle.model.specs.declared.Card.{Card}
 use Rattle.model.specs.Stored.{Event, area_size, no_file}
-use Rattle.model.specs.Loads.{State, with_dropped}
+use Rattle.model.specs.Loads.{with_dropped}
 use Rattle.model.specs.Rules.{Result, went, asked, failed}
 use Rattle.model.specs.Command.{command}
 

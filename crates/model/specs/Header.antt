@@ -1,7 +1,6 @@
 -- A grouping's header.
-use Rattle.std.specs.Prelude.{ℕ, Bool, true, false, cond, List, eqb, ltb, length}
+use Rattle.std.specs.Prelude.{ℕ, cond, List, eqb, ltb, length}
 use Rattle.lists.specs.Bytes.{byte_at, word_at}
-use Rattle.model.specs.declared.Head.{Head}
 use Rattle.model.specs.declared.Header.{Header}
 use Rattle.model.specs.declared.Header.TheVariants.{Torn, Whole}
 

@@ -1,10 +1,10 @@
 -- "The program `replay`": the characters that it prints.
-use Rattle.std.specs.Prelude.{ℕ, suc, ◌+◌, ◌*◌, ◌/◌, ◌%◌, ◌^◌, min, Bool, true, false, cond, not, ◌&&◌, ◌||◌, List, [], ◌∷◌, ◌++◌, eqb, ltb, leb, length, take, drop}
+use Rattle.std.specs.Prelude.{ℕ, suc, ◌+◌, ◌/◌, ◌%◌, min, cond, List, [], ◌∷◌, ◌++◌, ltb, take, drop}
 use Rattle.lists.specs.Bytes.{byte_at, zeros}
 use Rattle.model.specs.declared.Card.{Card}
 use Rattle.model.specs.Stored.{chip_size, chip_of, chip_form, fresh_card, area_size, answer_room}
 use Rattle.model.specs.Rows.{taken_of}
-use Rattle.model.specs.Session.{Turn, play_of, records_in, events_in}
+use Rattle.model.specs.Session.{play_of, records_in, events_in}
 
 -- a decimal digit, and a hexadecimal one in capitals
 abbrev pub digit : ℕ → ℕ

@@ -1,12 +1,12 @@
 -- "The order and its cutting": complete, the writer's records, the reader.
-use Rattle.std.specs.Prelude.{ℕ, zero, suc, ◌+◌, ◌*◌, Bool, true, false, cond, not, ◌&&◌, ◌||◌, List, [], ◌∷◌, ◌++◌, eqb, ltb, leb, length, take, drop}
+use Rattle.std.specs.Prelude.{ℕ, zero, suc, ◌+◌, ◌*◌, Bool, true, false, cond, not, List, [], ◌∷◌, ◌++◌, ltb, leb, length, take, drop}
 use Rattle.lists.specs.Bytes.{part, zeros}
 use Rattle.model.specs.declared.Head.{Head}
 use Rattle.model.specs.declared.Header.{Header}
 use Rattle.model.specs.declared.Header.TheVariants.{Torn, Whole}
 use Rattle.model.specs.declared.Pulled.{Pulled}
 use Rattle.model.specs.declared.Pulled.TheVariants.{Ended, Broken, Grouping}
-use Rattle.model.specs.Stored.{chip_of, chip_form, fresh_loading, record_size, data_room, area_size, Event, record_of}
+use Rattle.model.specs.Stored.{chip_of, chip_form, fresh_loading, record_size, data_room, area_size, record_of}
 use Rattle.model.specs.Rows.{row_at, row_of}
 use Rattle.model.specs.Header.{header_of}
 use Rattle.model.specs.Loads.{State, with_taken}

@@ -1,6 +1,6 @@
 -- The calls on a card: a fresh card, one event, a session, a shown record; and the "numbers that a call returns",
 -- each call's in its written order. "None of them changes lent memory."
-use Rattle.std.specs.Prelude.{ℕ, zero, suc, ◌*◌, ◌/◌, ◌%◌, Bool, true, false, cond, not, ◌&&◌, ◌||◌, List, [], ◌∷◌, ◌++◌, eqb, ltb, leb, length, take, drop}
+use Rattle.std.specs.Prelude.{ℕ, zero, suc, ◌/◌, ◌%◌, cond, not, List, [], ◌∷◌, ◌++◌, eqb, ltb, length, take, drop}
 use Rattle.lists.specs.Bytes.{byte_at, part, zeros}
 use Rattle.model.specs.declared.Card.{Card}
 use Rattle.model.specs.declared.Made.{Made}

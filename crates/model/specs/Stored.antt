@@ -1,10 +1,9 @@
 -- "Stored forms": the chip record, the fresh card, the event record, the lent memory.
-use Rattle.std.specs.Prelude.{ℕ, ◌+◌, ◌-◌, Bool, true, false, ◌&&◌, not, List, [], ◌∷◌, ◌++◌, eqb, leb, length, drop, replicate}
+use Rattle.std.specs.Prelude.{ℕ, ◌+◌, ◌-◌, Bool, false, ◌&&◌, List, ◌∷◌, ◌++◌, eqb, leb, length, drop, replicate}
 use Rattle.lists.specs.Bytes.{byte_at, part, zeros, all_zero}
 use Rattle.model.specs.declared.Chip.{Chip}
 use Rattle.model.specs.declared.Descriptor.{Descriptor}
 use Rattle.model.specs.declared.Secret.{Secret}
-use Rattle.model.specs.declared.Open.{Open}
 use Rattle.model.specs.declared.Open.TheVariants.{Shut}
 use Rattle.model.specs.declared.Life.{Life}
 use Rattle.model.specs.declared.Loading.{Loading}

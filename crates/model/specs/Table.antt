@@ -1,6 +1,6 @@
 -- "File table": descriptors, their rules, sizes, and the places of records.
 use Rattle.std.specs.Prelude.{ℕ, zero, suc, ◌+◌, ◌-◌, ◌*◌, ◌/◌, Bool, true, false, cond, not, ◌&&◌, ◌||◌, List, [], ◌∷◌, eqb, ltb, leb, length, get_or, take}
-use Rattle.lists.specs.Bytes.{byte_at, word_at, part}
+use Rattle.lists.specs.Bytes.{byte_at, word_at}
 use Rattle.model.specs.declared.Descriptor.{Descriptor}
 use Rattle.model.specs.declared.Spot.{Spot}
 use Rattle.model.specs.declared.Spot.TheVariants.{Nowhere, At}

@@ -1,2 +1,1 @@
-pub mod Pulling
 pub mod Pulls

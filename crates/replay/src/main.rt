@@ -1,5 +1,7 @@
 // The program `replay [--tell] [--sum] [FILE]`: a chip record and event records are read, the register is written to
 // standard output, and what is refused is said on standard error.
+#![tactic(auto)]
+
 
 // Whether the last line went out.
 fn print_end(count: u64) -> bool {

@@ -1,5 +1,7 @@
 // The program `show [--tell] [FILE]`: what `replay` reads, and at its end the card in words, for people. They are made
 // of the card with its secrets veiled, so that no byte of these is at hand.
+#![tactic(auto)]
+
 mod facts;
 mod files;
 mod form;

@@ -23,7 +23,7 @@ use Rattle.model.specs.Rules.{fed, spanned, rule_h}
 use Rattle.theorem_cutting.specs.Job.{state_of}
 use Rattle.theorem_cutting.specs.Contents.{Grouped, Each}
 use Rattle.model.proofs.Laws.{length_most, room_spot_lem}
-use Rattle.theorem_cutting.proofs.Laid.{laid_all, laid_last, Placed, Rising, none, more, each_last, rising_last}
+use Rattle.theorem_cutting.proofs.Laid.{laid_all, laid_last, Placed, Rising, none, each_last, rising_last}
 use Rattle.lists.specs.Truth.{and_r}
 
 -- the area holds the values of these groupings, and nothing else

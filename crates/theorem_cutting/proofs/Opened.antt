@@ -27,6 +27,8 @@ use Rattle.theorem_cutting.specs.Bytewise.{stored}
 
 pub misses_none : (o : Open) → Misses o 0 → o ≡ Shut
 misses_none Shut shut = refl
+misses_none (Table _ _) h = elim h [ ]
+misses_none (Record _ _ _) h = elim h [ ]
 
 -- what a result that went on leaves in the state
 abbrev pub Leaves : {A : Type 0} → (State → Type 0) → Result A → Type 0

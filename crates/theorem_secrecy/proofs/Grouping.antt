@@ -1,7 +1,7 @@
 -- Hiding commutes with a grouping.
 use Prim.Native.Nat.{ℕ, ◌-◌}
 use mathlib.Core.Path.{◌≡◌, refl, ap}
-use mathlib.Core.Bool.{true, false, ◌||◌, true≢false}
+use mathlib.Core.Bool.{false, ◌||◌, true≢false}
 use mathlib.Core.List.{List}
 use lib.Dec.{eqb, leb}
 use lib.ListN.{length, take, drop}

@@ -1,16 +1,13 @@
 -- A tag's row, case by case: what proofs that go through the rules go by.
-use Prim.Native.Nat.{ℕ, ◌-◌}
+use Prim.Native.Nat.{ℕ}
 use mathlib.Core.Path.{◌≡◌, subst}
 use mathlib.Core.Bool.{Bool, true, false, ◌&&◌, and-eq-true_iff, true≢false}
-use mathlib.Core.List.{List}
 use native.Mathlib.Nat.{le_antisymm}
 use borrow.Author.Tests.{leb-true}
 use lib.Dec.{leb}
-use lib.ListN.{length, drop}
 use Rattle.lists.specs.Choice.{by_cond}
-use Rattle.model.specs.declared.Head.{Head}
 use Rattle.model.specs.Rows.{row_of, row_table, row_from}
-use Rattle.model.specs.Rules.{Rule, ◌>>=◌, ◌>>◌, is_query, rule_b, rule_c, rule_d, rule_e, rule_f, rule_g, rule_h}
+use Rattle.model.specs.Rules.{is_query}
 
 -- '9484' is the only tag of row 1
 is_challenge : (tag : ℕ) → (leb 0x9484 tag && leb tag 0x9484) ≡ true → tag ≡ 0x9484

@@ -1,5 +1,5 @@
 -- A card, and all that an event gives, without the hidden bytes of the kept secrets.
-use Rattle.std.specs.Prelude.{ℕ, suc, Bool, true, false, cond, List, [], ◌∷◌}
+use Rattle.std.specs.Prelude.{ℕ, suc, Bool, cond, List, [], ◌∷◌}
 use Rattle.model.specs.declared.Secret.{Secret}
 use Rattle.model.specs.declared.Loading.{Loading}
 use Rattle.model.specs.declared.Card.{Card}

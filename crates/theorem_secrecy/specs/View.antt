@@ -1,7 +1,7 @@
 -- What may be seen of a session: the value bytes of '3800' and '410n' groupings that pass all their checks are
 -- hidden, and nothing else. The groupings are found by the same walk as the published definition's, along the
 -- session's own run.
-use Rattle.std.specs.Prelude.{ℕ, zero, suc, ◌-◌, Bool, true, false, cond, not, ◌&&◌, ◌||◌, List, [], ◌∷◌, ◌++◌, eqb, ltb, leb, length, get_or, take, drop, replicate}
+use Rattle.std.specs.Prelude.{ℕ, zero, suc, ◌-◌, Bool, true, cond, not, ◌&&◌, ◌||◌, List, [], ◌∷◌, ◌++◌, eqb, ltb, leb, length, get_or, take, drop, replicate}
 use Rattle.lists.specs.Joined.{joined}
 use Rattle.lists.specs.Bytes.{byte_at, part, zeros}
 use Rattle.model.specs.declared.Open.{Open}

@@ -1,5 +1,7 @@
 // The program `trace [--tell] [FILE]`: what `replay` reads, and of each event the whole state on a line. The tests
 // compare it character by character with the second program's.
+#![tactic(auto)]
+
 ghost use Rattle.std.specs.Prelude.{◌≡◌, ◌≤◌, length};
 ghost use Rattle.print_forms.specs.Room.{Behind};
 ghost use Rattle.lists.specs.Bytes.{zeros};

@@ -1,8 +1,6 @@
 -- What rule f leaves of a value: a length that its row allows.
-use Rattle.std.specs.Prelude.{ℕ, ◌-◌, ◌%◌, ◌≤◌, ◌≡◌, Bool, ◌&&◌, List, leb, eqb, length, drop}
+use Rattle.std.specs.Prelude.{ℕ, ◌%◌, ◌≤◌, ◌≡◌, Bool, ◌&&◌, leb, eqb}
 use Rattle.model.specs.declared.Row.{Row}
-use Rattle.model.specs.declared.Head.{Head}
-use Rattle.model.specs.Rules.{Rule, ◌>>=◌, ◌>>◌, rule_b, rule_c, rule_d, rule_e, rule_f, rule_g, rule_h}
 
 -- a length that a row's constants allow, in so much room
 abbrev pub fits_row : Row → ℕ → ℕ → Bool

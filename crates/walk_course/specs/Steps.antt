@@ -1,5 +1,5 @@
 -- How the walk's code and the walk's definition are held together: what the owner of the loading part makes of a step.
-use Rattle.std.specs.Prelude.{ℕ, ◌+◌, ◌-◌, ◌≤◌, ◌<◌, min, ◌≡◌, true, cond, List, [], ◌∷◌, eqb, ltb, length, drop}
+use Rattle.std.specs.Prelude.{ℕ, ◌+◌, ◌-◌, ◌≤◌, ◌<◌, min, ◌≡◌, true, cond, List, [], ◌∷◌, eqb, length, drop}
 use Rattle.lists.specs.Bytes.{part, byte_at, padded, zeros}
 use Rattle.lists.specs.Over.{overwrite}
 use Rattle.model.specs.declared.Open.{Open}

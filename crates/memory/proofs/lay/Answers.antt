@@ -1,9 +1,7 @@
 -- `memory::lay`: after i turns the first i bytes are the source's, the others as they were (`over_more0`).
-use Prim.Native.Nat.{◌-◌, ◌≤◌}
-use mathlib.Core.Path.{◌≡◌, sym}
+use mathlib.Core.Path.{sym}
 use native.Mathlib.Omega.{arith}
-use lib.ListN.{length, take}
-use Rattle.lists.specs.Over.{overwrite, over_more0, over_none, length_over}
+use Rattle.lists.specs.Over.{over_more0, over_none, length_over}
 use lib.Seq.{take_all}
 use borrow.Author.Rules.{rules}
 use Rattle.memory.proofs.lay.Goals as goal

@@ -1,11 +1,8 @@
 -- `memory::lay`: after i turns the first i bytes are the source's, the others as they were (`over_more0`).
 use Prim.Native.Nat.{◌-◌, ◌≤◌}
-use mathlib.Core.Path.{◌≡◌, sym}
-use native.Mathlib.Omega.{arith}
+use mathlib.Core.Path.{◌≡◌}
 use lib.ListN.{length, take}
-use Rattle.lists.specs.Over.{overwrite, over_more0, over_none, length_over}
-use lib.Seq.{take_all}
-use borrow.Author.Rules.{rules}
+use Rattle.lists.specs.Over.{overwrite}
 use Rattle.memory.proofs.lay.Given as goal
 
 abbrev pub invariant-loop-i : goal.invariant-loop-i

@@ -6,7 +6,6 @@ use lib.ListN.{length, take, drop}
 use native.Mathlib.Omega.{arith}
 use Rattle.lists.specs.Bytes.{part}
 use Rattle.lists.specs.Least.{drop_least, part_least}
-use borrow.Author.Rules.{rules}
 use Rattle.memory.proofs.part_of.Goals as goal
 
 part-so : (s : List ℕ) (start len from n : ℕ) → from ≡ min start (length s)

@@ -3,7 +3,6 @@ use Prim.Native.Nat.{◌-◌}
 use native.Mathlib.Omega.{arith}
 use lib.ListN.{length}
 use Rattle.lists.specs.Over.{over_mid}
-use borrow.Author.Rules.{rules}
 use Rattle.memory.proofs.put_bytes.Goals as goal
 
 pub returns : goal.returns

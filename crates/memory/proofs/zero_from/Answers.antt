@@ -1,10 +1,7 @@
 -- `memory::zero_from`: all from `at` on is zero exactly where `zero` still holds and all from i on is zero;
 -- a byte that is not zero makes both sides false.
-use Prim.Native.Nat.{◌-◌}
-use mathlib.Core.Path.{◌≡◌, refl, sym, ◌∙◌}
-use lib.ListN.{length, drop}
-use mathlib.Core.Bool.{◌&&◌}
-use Rattle.lists.specs.Bytes.{all_zero, zero_step, zero_stop, zero_end}
+use mathlib.Core.Path.{refl, sym, ◌∙◌}
+use Rattle.lists.specs.Bytes.{zero_step, zero_stop, zero_end}
 use Rattle.lists.specs.Truth.{and_false, and_true}
 use borrow.Author.Rules.{rules}
 use Rattle.memory.proofs.zero_from.Goals as goal

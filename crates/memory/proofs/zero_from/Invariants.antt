@@ -1,13 +1,10 @@
 -- `memory::zero_from`: all from `at` on is zero exactly where `zero` still holds and all from i on is zero;
 -- a byte that is not zero makes both sides false.
 use Prim.Native.Nat.{◌-◌}
-use mathlib.Core.Path.{◌≡◌, refl, sym, ◌∙◌}
+use mathlib.Core.Path.{◌≡◌}
 use lib.ListN.{length, drop}
 use mathlib.Core.Bool.{◌&&◌}
-use mathlib.Core.Logic.{⊎_elim}
-use Rattle.lists.specs.Bytes.{all_zero, zero_step, zero_stop, zero_end}
-use Rattle.lists.specs.Truth.{and_false, and_true}
-use borrow.Author.Rules.{rules}
+use Rattle.lists.specs.Bytes.{all_zero}
 use Rattle.memory.proofs.zero_from.Given as goal
 
 abbrev pub invariant-loop-i : goal.invariant-loop-i

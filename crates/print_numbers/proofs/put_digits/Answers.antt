@@ -1,13 +1,9 @@
 -- `print_numbers::put_digits`: the last i digits of `rest`, laid over `out`, would give the final result
 -- (`digits_more`); at the end none is left (`digits_none`).
-use Prim.Native.Nat.{◌≤◌}
-use mathlib.Core.Path.{◌≡◌, sym, ◌∙◌}
+use mathlib.Core.Path.{sym, ◌∙◌}
 use native.Mathlib.Omega.{arith}
-use lib.ListN.{length, length-set}
-use borrow.Author.Rules.{rules}
+use lib.ListN.{length-set}
 use Rattle.print_numbers.proofs.Digits.{digits_more, digits_none}
-use Rattle.print_numbers.specs.Trace.{last_digits}
-use Rattle.lists.specs.Over.{overwrite}
 use Rattle.print_numbers.proofs.put_digits.Goals as goal
 
 pub loop-i-preserved : goal.loop-i-preserved

@@ -1,11 +1,8 @@
 -- `print_numbers::put_digits`: the last i digits of `rest`, laid over `out`, would give the final result
 -- (`digits_more`); at the end none is left (`digits_none`).
 use Prim.Native.Nat.{◌≤◌}
-use mathlib.Core.Path.{◌≡◌, sym, ◌∙◌}
-use native.Mathlib.Omega.{arith}
-use lib.ListN.{length, length-set}
-use borrow.Author.Rules.{rules}
-use Rattle.print_numbers.proofs.Digits.{digits_more, digits_none}
+use mathlib.Core.Path.{◌≡◌}
+use lib.ListN.{length}
 use Rattle.print_numbers.specs.Trace.{last_digits}
 use Rattle.lists.specs.Over.{overwrite}
 use Rattle.print_numbers.proofs.put_digits.Given as goal

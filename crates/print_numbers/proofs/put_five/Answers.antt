@@ -1,8 +1,6 @@
 -- `print_numbers::put_five`: three digits set one by one, and `two` behind them, are the run of five (`run_five`).
 use mathlib.Core.Path.{◌∙◌}
-use native.Mathlib.Omega.{arith}
 use lib.ListN.{length-set}
-use borrow.Author.Rules.{rules}
 use Rattle.lists.specs.Over.{length_over}
 use Rattle.print_numbers.proofs.Runs.{run_five}
 use Rattle.print_numbers.proofs.put_five.Goals as goal

@@ -1,5 +1,5 @@
 -- `print_numbers::put_hex`: after i turns the first i bytes stand in hexadecimal from `at` on (`hex_more`).
-use Prim.Native.Nat.{◌-◌, ◌≤◌, ◌<◌}
+use Prim.Native.Nat.{◌<◌}
 use mathlib.Core.Path.{◌≡◌, sym, ◌∙◌}
 use native.Mathlib.Omega.{arith}
 use lib.ListN.{length, take}
@@ -7,7 +7,7 @@ use borrow.Author.Rules.{rules}
 use lib.Seq.{take_all}
 use Rattle.print_numbers.proofs.Digits.{hex_more}
 use Rattle.print_numbers.specs.Trace.{hex_of}
-use Rattle.lists.specs.Over.{overwrite, over_none, length_over}
+use Rattle.lists.specs.Over.{over_none, length_over}
 use Rattle.print_numbers.proofs.put_hex.Goals as goal
 
 pub loop-i-init : goal.loop-i-init

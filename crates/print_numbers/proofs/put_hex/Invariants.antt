@@ -1,13 +1,9 @@
 -- `print_numbers::put_hex`: after i turns the first i bytes stand in hexadecimal from `at` on (`hex_more`).
-use Prim.Native.Nat.{◌-◌, ◌≤◌, ◌<◌}
-use mathlib.Core.Path.{◌≡◌, sym, ◌∙◌}
-use native.Mathlib.Omega.{arith}
+use Prim.Native.Nat.{◌-◌, ◌≤◌}
+use mathlib.Core.Path.{◌≡◌}
 use lib.ListN.{length, take}
-use borrow.Author.Rules.{rules}
-use lib.Seq.{take_all}
-use Rattle.print_numbers.proofs.Digits.{hex_more}
 use Rattle.print_numbers.specs.Trace.{hex_of}
-use Rattle.lists.specs.Over.{overwrite, over_none, length_over}
+use Rattle.lists.specs.Over.{overwrite}
 use Rattle.print_numbers.proofs.put_hex.Given as goal
 
 abbrev pub invariant-loop-i : goal.invariant-loop-i

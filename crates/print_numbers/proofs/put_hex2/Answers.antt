@@ -1,7 +1,4 @@
 -- `print_numbers::put_hex2`: two digits set one by one are `hex2` laid at `at` (`run_two`).
-use native.Mathlib.Omega.{arith}
-use lib.ListN.{length-set}
-use borrow.Author.Rules.{rules}
 use Rattle.print_numbers.proofs.Runs.{run_two}
 use Rattle.print_numbers.proofs.put_hex2.Goals as goal
 

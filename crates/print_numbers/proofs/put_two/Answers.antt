@@ -1,7 +1,4 @@
 -- `print_numbers::put_two`: the two bytes that are set one behind the other are one run of two (`run_two`).
-use native.Mathlib.Omega.{arith}
-use lib.ListN.{length-set}
-use borrow.Author.Rules.{rules}
 use Rattle.print_numbers.proofs.Runs.{run_two}
 use Rattle.print_numbers.proofs.put_two.Goals as goal
 

@@ -1,11 +1,9 @@
 -- `print_numbers::width`: w digits are counted: `1 + width_of n` is w and the width of `rest`.
 -- `rest` is below 10 to the power of 21 - w, so w stays within 20.
-use borrow.Author.Rules.{rules}
-use Prim.Native.Nat.{◌+◌, ◌-◌, ◌≤◌, ◌<◌, ◌^◌}
-use mathlib.Core.Path.{◌≡◌, refl, ◌∙◌}
+use Prim.Native.Nat.{◌-◌, ◌≤◌}
+use mathlib.Core.Path.{refl, ◌∙◌}
 use native.Mathlib.Omega.{arith}
 use Rattle.print_numbers.proofs.Digits.{width_room, width_small, width_again, width_one}
-use Rattle.print_numbers.specs.Trace.{width_of, width_with}
 use Rattle.print_numbers.proofs.width.Goals as goal
 
 pub loop-rest-init : goal.loop-rest-init

@@ -1,6 +1,5 @@
 -- `row_sets::is_taken`: `taken` is defined as the code computes it.
 use mathlib.Core.Path.{refl}
-use borrow.Author.Rules.{rules}
 use Rattle.model.specs.Rows.{taken}
 use Rattle.row_sets.proofs.is_taken.Goals as goal
 
