@@ -19,7 +19,7 @@ const LINES: u64 = 10;
 const MOST: u64 = 0x4_0000_0000_0000;
 
 // How many events there were, and how many of them were refused.
-#[derive(Drop)]
+#[derive(Clone, Copy)]
 pub struct Noted {
     pub events: u64,
     pub refused: u64,
