@@ -12,7 +12,7 @@ ghost use Rattle.io_edge.specs.Counts.{IsPrefixLen};
 
 pub use files::{open_overwrite, open_read, remove, rename};
 pub use source::{Source, Stream, argument, behind, is_arg, is_text_name, label_buffer, open_last};
-use std::fs::OpenOptions;
+use std::fs::{File, OpenOptions};
 use std::io::{ErrorKind, Read, Write};
 use std::{io, thread};
 pub use text::{say, say_failed, say_fault, say_form};
@@ -158,12 +158,19 @@ pub fn status_of(refused: bool) -> u8
     DONE
 }
 
-// The last act of a program that was asked to tell its status. Who hears nothing knows that it did not come to its end.
-pub fn tell(rt: HostRuntime, asked: bool, status: u8) {
+// Who hears the status of a program that was asked to tell it. A program opens this before any other file: were
+// descriptor 3 closed, that file would stand there.
+pub fn listener(rt: HostRuntime, asked: bool) -> Option<File> {
     if asked {
+        return OpenOptions::new().write(true).open(&rt, STATUS_FILE).ok();
+    }
+    None
+}
+
+// The last act of such a program. Who hears nothing knows that it did not come to its end.
+pub fn tell(listener: Option<File>, status: u8) {
+    if let Some(mut heard) = listener {
         let digit = b'0' + status % 10;
-        if let Ok(mut heard) = OpenOptions::new().write(true).open(&rt, STATUS_FILE) {
-            let _ = write_whole(&mut heard, &[digit, b'\n']);
-        }
+        let _ = write_whole(&mut heard, &[digit, b'\n']);
     }
 }

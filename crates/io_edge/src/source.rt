@@ -130,14 +130,6 @@ fn shut(labelled: usize) -> Source
     }
 }
 
-// Argument i behind what is filled of a label. How much is filled then: no more than before where there is none.
-fn put_arg(rt: HostRuntime, label: &mut [u8], filled: usize, i: usize) -> usize
-    requires { filled ≤ length label.old }
-    ensures { (filled ≤ result) × IsPrefixLen result label.new }
-{
-    filled + argument(rt, i, &mut label[filled..])
-}
-
 // The system's number of the reason that a name is too long.
 const ENAMETOOLONG: i32 = 36;
 

@@ -19,17 +19,18 @@ const LINES: u64 = 10;
 const MOST: u64 = 0x4_0000_0000_0000;
 
 // How many events there were, and how many of them were refused.
-#[derive(Drop)]
+#[derive(Clone, Copy)]
 pub struct Noted {
     pub events: u64,
     pub refused: u64,
 }
 
 // A chip record that is refused.
-pub fn note_chip(label: &[u8], chip: &[u8]) {
+pub fn note_chip(rt: HostRuntime, label: &[u8], chip: &[u8]) {
     if chip.len() != CHIP_SIZE {
         let n = chip.len() as u64;
         io_edge::say_form(
+            rt,
             label,
             b": refused by number 7: the chip record has # bytes, and it must have 40\n",
             &[n],
@@ -37,6 +38,7 @@ pub fn note_chip(label: &[u8], chip: &[u8]) {
         return;
     }
     io_edge::say(
+        rt,
         label,
         b": refused by number 7: the chip record's last three bytes, 37 to 39 counted from 0, must be zero\n",
     );
@@ -77,41 +79,43 @@ fn first_from(r: &[u8], at: usize) -> usize
 }
 
 // Only places are said, and a kind: a byte that must be zero could be a key's.
-fn say_kind(label: &[u8], kind: u8, events: u64) {
+fn say_kind(rt: HostRuntime, label: &[u8], kind: u8, events: u64) {
     io_edge::say_form(
+        rt,
         label,
         b": event # is refused by number 4: byte #, the kind, is #, and must be 1 to 8\n",
         &[one_more(events), start_of(events), kind as u64],
     );
 }
 
-fn say_zero(label: &[u8], at: usize, events: u64)
+fn say_zero(rt: HostRuntime, label: &[u8], at: usize, events: u64)
     requires { at ≤ 260 }
 {
     io_edge::say_form(
+        rt,
         label,
         b": event # is refused by number 5: byte # must be zero\n",
         &[one_more(events), start_of(events) + at as u64],
     );
 }
 
-fn say_fault(label: &[u8], r: &[u8], number: u8, events: u64)
+fn say_fault(rt: HostRuntime, label: &[u8], r: &[u8], number: u8, events: u64)
     requires { length r.now ≡ 260 }
 {
     if number == 4 {
-        say_kind(label, r[0], events);
+        say_kind(rt, label, r[0], events);
         return;
     }
     let at = first_from(r, DATA_PLACE + memory::wide(r[LENGTH_PLACE]));
-    say_zero(label, at, events);
+    say_zero(rt, label, at, events);
 }
 
 // One record more. It is looked at again only where playing it refused it.
-pub fn note(label: &[u8], r: &[u8], refused: bool, noted: Noted) -> Noted
+pub fn note(rt: HostRuntime, label: &[u8], r: &[u8], refused: bool, noted: Noted) -> Noted
     requires { length r.now ≡ 260 }
 {
     if refused {
-        return note_refused(label, r, noted);
+        return note_refused(rt, label, r, noted);
     }
     Noted {
         events: one_more(noted.events),
@@ -119,11 +123,11 @@ pub fn note(label: &[u8], r: &[u8], refused: bool, noted: Noted) -> Noted
     }
 }
 
-fn note_refused(label: &[u8], r: &[u8], noted: Noted) -> Noted
+fn note_refused(rt: HostRuntime, label: &[u8], r: &[u8], noted: Noted) -> Noted
     requires { length r.now ≡ 260 }
 {
     if noted.refused < LINES {
-        say_fault(label, r, event_kinds::fault_in(r), noted.events);
+        say_fault(rt, label, r, event_kinds::fault_in(r), noted.events);
     }
     Noted {
         events: one_more(noted.events),
@@ -160,7 +164,7 @@ fn note_good(count: usize, noted: Noted) -> Noted
 }
 
 // The records of a block one by one, beside the lines that they were given.
-fn note_each(label: &[u8], records: &[u8], lines: &[u8], mut noted: Noted) -> Noted
+fn note_each(rt: HostRuntime, label: &[u8], records: &[u8], lines: &[u8], mut noted: Noted) -> Noted
     requires { length records.now / 260 * 26 ≤ length lines.now }
 {
     let mut i: usize = 0;
@@ -169,27 +173,28 @@ fn note_each(label: &[u8], records: &[u8], lines: &[u8], mut noted: Noted) -> No
         let from = i * RECORD_SIZE;
         let r = &records[from..from + RECORD_SIZE];
         let refused = lines[i * LINE_SIZE + NUMBER_PLACE] != ZERO_DIGIT;
-        noted = note(label, r, refused, noted);
+        noted = note(rt, label, r, refused, noted);
         i += 1;
     }
     noted
 }
 
 // The records of a block, beside the lines that they were given. A block of which none was refused costs little.
-pub fn note_all(label: &[u8], records: &[u8], lines: &[u8], noted: Noted) -> Noted
+pub fn note_all(rt: HostRuntime, label: &[u8], records: &[u8], lines: &[u8], noted: Noted) -> Noted
     requires { length records.now / 260 * 26 ≤ length lines.now }
 {
     let k = records.len() / RECORD_SIZE;
     if none_refused(lines, k) {
         return note_good(k, noted);
     }
-    note_each(label, records, lines, noted)
+    note_each(rt, label, records, lines, noted)
 }
 
 // The session's end, with so many bytes behind the last whole record. Whether anything was refused.
-pub fn note_end(label: &[u8], noted: Noted, left: usize) -> bool {
+pub fn note_end(rt: HostRuntime, label: &[u8], noted: Noted, left: usize) -> bool {
     if LINES < noted.refused {
         io_edge::say_form(
+            rt,
             label,
             b": and # more events are refused; their lines have the number\n",
             &[noted.refused - LINES],
@@ -197,6 +202,7 @@ pub fn note_end(label: &[u8], noted: Noted, left: usize) -> bool {
     }
     if left != 0 {
         io_edge::say_form(
+            rt,
             label,
             b": the last # bytes are no whole record of 260, and no event\n",
             &[left as u64],

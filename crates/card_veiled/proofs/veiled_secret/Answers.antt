@@ -3,13 +3,9 @@ use mathlib.Core.Path.{◌≡◌}
 use lib.ListN.{length}
 use borrow.Author.Rules.{rules}
 use Rattle.card_veiled.proofs.Blotted.{secret_veiled}
-use Rattle.card_veiled.proofs.veiled_secret.Statement.{statement}
-use Rattle.card_veiled.proofs.veiled_secret.Tie as tie
+use Rattle.card_veiled.proofs.veiled_secret.Goals as goal
 
-returns : tie.Need-returns
+pub returns : goal.returns
 returns c =
     let long : length c.args.s.bytes ≡ 64 = search rules in
     secret_veiled c.args.s long
-
-pub veiled_secret_spec : {M : Type 1} → statement M
-veiled_secret_spec = tie.close (tie.spec returns)
