@@ -1,6 +1,5 @@
 -- One step of a command: which record it is about, and what it comes to.
 use Rattle.std.specs.Prelude.{ℕ, ◌+◌, ◌≤◌, cond, List, eqb}
-use Rattle.model.specs.declared.Head.{Head}
 use Rattle.model.specs.declared.Header.{Header}
 use Rattle.model.specs.declared.Header.TheVariants.{Torn, Whole}
 use Rattle.model.specs.declared.Open.{Open}

@@ -1,10 +1,8 @@
 -- Bytes of an open '3100', some at a time: what a part of them comes to.
-use Rattle.std.specs.Prelude.{ℕ, zero, suc, ◌+◌, ◌-◌, ◌≤◌, ◌<◌, min, ◌≡◌, List, length, drop}
+use Rattle.std.specs.Prelude.{ℕ, zero, suc, ◌-◌, ◌≤◌, ◌<◌, ◌≡◌, List, drop}
 use Rattle.lists.specs.Bytes.{part}
 use Rattle.model.specs.declared.Running.{Running}
 use Rattle.model.specs.Loads.{running_taken, running_open}
-use Rattle.walk_course.specs.Steps.{state_of}
-use Rattle.walk_table.specs.declared.Taken.{Taken}
 use Rattle.model.specs.declared.Open.{Open}
 use Rattle.model.specs.declared.Open.TheVariants.{Shut, Table, Record}
 use Rattle.model.specs.declared.Verdict.{Verdict}
