@@ -154,6 +154,9 @@ def turn(crate, function, names):
             body = "\n".join(rest)
             body = re.sub(rf"(?m)^{re.escape(need[1])}(?=\s)", name, body, count=1)
             body = re.sub(rf"(?m)^({re.escape(name)} \w+) κs(?= )", r"\1", body, count=1)
+            arm = re.search(r"-in-([A-Za-z]\w*)", name)
+            if arm:
+                body = re.sub(rf"\b(\w+)(?:\.{W})*\.given\.1(?![\w.])", rf"\1.in-{arm[1]}.is", body)
             called[need[1]] = name
             comments = "\n".join(decl[:at]) + ("\n" if at else "")
             answers.append(f"{comments}pub {name} : goal.{name}\n{walk_turned(body, steps)}")

@@ -4,6 +4,7 @@ ghost use Rattle.std.specs.Prelude.{◌≡◌, ◌+◌, ◌*◌, ◌≤◌, leng
 ghost use Rattle.io_edge.specs.Counts.{IsPrefixLen};
 
 use crate::numbers::two_at;
+use io_edge::Stream;
 
 // No fault; the input ended within the call; memory is longer than may be; there is no such call; a read failed, or a
 // write, which was said; the input ended before the call.
@@ -36,18 +37,18 @@ fn fault_of(failed: bool, short: bool) -> u8 {
 }
 
 // Fills a room.
-pub fn take(fault: &mut u8, label: &[u8], fd: i32, room: &mut [u8]) {
+pub fn take(fault: &mut u8, rt: HostRuntime, label: &[u8], from: &mut Stream, room: &mut [u8]) {
     let before = *fault;
     if before == NO_FAULT {
-        let got = io_edge::read_labelled(label, fd, room);
+        let got = io_edge::read_labelled(rt, label, from, room);
         *fault = fault_of(got.failed, got.count < room.len());
     }
 }
 
 // The byte that says which call. Where none comes, the calls are at their end.
-pub fn take_kind(fault: &mut u8, label: &[u8], fd: i32) -> u8 {
+pub fn take_kind(fault: &mut u8, rt: HostRuntime, label: &[u8], from: &mut Stream) -> u8 {
     let mut kind = [0u8; 1];
-    take(fault, label, fd, &mut kind);
+    take(fault, rt, label, from, &mut kind);
     let found = *fault;
     if found == TORN {
         *fault = ENDED;
@@ -56,11 +57,17 @@ pub fn take_kind(fault: &mut u8, label: &[u8], fd: i32) -> u8 {
 }
 
 // How many are to come: what the next two bytes say, if it is no more than may be.
-fn take_length(fault: &mut u8, label: &[u8], fd: i32, most: usize) -> usize
+fn take_length(
+    fault: &mut u8,
+    rt: HostRuntime,
+    label: &[u8],
+    from: &mut Stream,
+    most: usize,
+) -> usize
     ensures { result ≤ most }
 {
     let mut two = [0u8; 2];
-    take(fault, label, fd, &mut two);
+    take(fault, rt, label, from, &mut two);
     let found = *fault;
     if found != NO_FAULT {
         return 0;
@@ -74,18 +81,31 @@ fn take_length(fault: &mut u8, label: &[u8], fd: i32, most: usize) -> usize
 }
 
 // Fills the front of a room.
-fn take_front(fault: &mut u8, label: &[u8], fd: i32, room: &mut [u8], n: usize)
+fn take_front(
+    fault: &mut u8,
+    rt: HostRuntime,
+    label: &[u8],
+    from: &mut Stream,
+    room: &mut [u8],
+    n: usize,
+)
     requires { n ≤ length room.old }
 {
-    take(fault, label, fd, &mut room[..n]);
+    take(fault, rt, label, from, &mut room[..n]);
 }
 
 // Lent memory, into a room's front. How long it is.
-pub fn take_memory(fault: &mut u8, label: &[u8], fd: i32, room: &mut [u8]) -> usize
+pub fn take_memory(
+    fault: &mut u8,
+    rt: HostRuntime,
+    label: &[u8],
+    from: &mut Stream,
+    room: &mut [u8],
+) -> usize
     ensures { IsPrefixLen result room.new }
 {
-    let n = take_length(fault, label, fd, room.len());
-    take_front(fault, label, fd, room, n);
+    let n = take_length(fault, rt, label, from, room.len());
+    take_front(fault, rt, label, from, room, n);
     n
 }
 
@@ -101,13 +121,19 @@ fn read_words(words: &mut [u16], bytes: &[u8], n: usize)
 }
 
 // Words, into a room's front. How many they are.
-pub fn take_words(fault: &mut u8, label: &[u8], fd: i32, words: &mut [u16]) -> usize
+pub fn take_words(
+    fault: &mut u8,
+    rt: HostRuntime,
+    label: &[u8],
+    from: &mut Stream,
+    words: &mut [u16],
+) -> usize
     requires { length words.old ≡ 64 }
     ensures { IsPrefixLen result words.new }
 {
     let mut bytes = [0u8; 128];
-    let n = take_length(fault, label, fd, WORD_LIMIT);
-    take_front(fault, label, fd, &mut bytes, 2 * n);
+    let n = take_length(fault, rt, label, from, WORD_LIMIT);
+    take_front(fault, rt, label, from, &mut bytes, 2 * n);
     read_words(words, &bytes, n);
     n
 }

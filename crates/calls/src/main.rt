@@ -13,53 +13,54 @@ mod stored;
 ghost use Rattle.std.specs.Prelude.{◌≡◌, ◌+◌, ◌≤◌, length};
 
 use input::{ENDED, FAILED, NO_FAULT, take_kind};
+use io_edge::{Page, Stream};
 use making::make;
 
 // No call's line is longer than 2,600 characters.
 const LINE_ROOM: usize = 4_096;
 
 // How much of the buffer is filled, how many calls were made, and what is at fault with the next, which ends it all.
-#[derive(Drop)]
+#[derive(Clone, Copy)]
 struct Stand {
     pub filled: usize,
     pub count: u64,
     pub fault: u8,
 }
 
-// `good` says that all went out so far. Where a write fails, nothing is written behind it.
-fn write(good: &mut bool, text: &[u8]) {
-    io_edge::print_on(good, b"calls: standard output", text);
+// Where a write failed, nothing is written behind it.
+fn write(page: &mut Page, text: &[u8]) {
+    io_edge::print_on(page, b"calls: standard output", text);
 }
 
 // How much of the buffer stays filled where a line is to come: all, or none of it once it is written.
-fn room_for(fault: &mut u8, out: &[u8], filled: usize) -> usize
+fn room_for(rt: HostRuntime, fault: &mut u8, out: &[u8], filled: usize) -> usize
     requires { filled ≤ length out.now }
     ensures { result ≤ length out.now }
 {
     if LINE_ROOM <= out.len() - filled {
         return filled;
     }
-    let mut good = true;
-    write(&mut good, &out[..filled]);
-    if !good {
+    let mut page = io_edge::new_page(rt);
+    write(&mut page, &out[..filled]);
+    if !page.good {
         *fault = FAILED;
     }
     0
 }
 
 // The next call.
-fn make_next(s: Stand, out: &mut [u8], label: &[u8], fd: i32) -> Stand
+fn make_next(s: Stand, out: &mut [u8], rt: HostRuntime, label: &[u8], from: &mut Stream) -> Stand
     requires { s.filled ≤ length out.old }
     ensures { result.filled ≤ length out.new }
 {
     let mut fault = NO_FAULT;
-    let at = room_for(&mut fault, out, s.filled);
-    let kind = take_kind(&mut fault, label, fd);
-    let end = make(kind, &mut fault, label, fd, out, at);
+    let at = room_for(rt, &mut fault, out, s.filled);
+    let kind = take_kind(&mut fault, rt, label, from);
+    let end = make(kind, &mut fault, rt, label, from, out, at);
     if fault == NO_FAULT {
         return Stand {
             filled: end,
-            count: std::num::wrapping_add_u64(s.count, 1),
+            count: s.count.wrapping_add(1),
             fault: NO_FAULT,
         };
     }
@@ -70,9 +71,9 @@ fn make_next(s: Stand, out: &mut [u8], label: &[u8], fd: i32) -> Stand
     }
 }
 
-// Call after call, to the end of the input or to a call that is none. The loop counts its turns down from a number
-// that no run uses up, since nothing says that an input ends.
-fn make_all(out: &mut [u8], label: &[u8], fd: i32) -> Stand
+// Call after call, to the end of the input or to a call that is none. The loop has more turns than a run uses up,
+// since nothing says that an input ends.
+fn make_all(out: &mut [u8], rt: HostRuntime, label: &[u8], from: &mut Stream) -> Stand
     ensures { result.filled ≤ length out.new }
 {
     let mut s = Stand {
@@ -80,48 +81,47 @@ fn make_all(out: &mut [u8], label: &[u8], fd: i32) -> Stand
         count: 0,
         fault: NO_FAULT,
     };
-    let mut turns = u64::MAX;
-    while 0 < turns {
-        s = make_next(s, out, label, fd);
+    for _ in 0..u64::MAX {
+        s = make_next(s, out, rt, label, from);
         if s.fault != NO_FAULT {
             return s;
         }
-        turns -= 1;
     }
     s
 }
 
 // What is wrong with the call behind those that were made. A read or a write that failed was said already.
-fn say_wrong(label: &[u8], s: Stand) {
+fn say_wrong(rt: HostRuntime, label: &[u8], s: Stand) {
     if s.fault != FAILED {
         io_edge::say_form(
+            rt,
             label,
             b": number # is no call: %{\x01the input ends within it|\x02memory or words too long|\x03no such call|}\n",
-            &[std::num::wrapping_add_u64(s.count, 1), s.fault as u64],
+            &[s.count.wrapping_add(1), s.fault as u64],
         );
     }
 }
 
 // The last line. Whether it went out.
-fn print_end(count: u64) -> bool {
+fn print_end(rt: HostRuntime, count: u64) -> bool {
     let mut line = [0u8; 48];
     let n = print_forms::put_form(&mut line, 0, b"END #\n", &[count]);
-    io_edge::print(b"calls: standard output", &line[..n])
+    io_edge::print(rt, b"calls: standard output", &line[..n])
 }
 
 // The lines that are left, and the last one behind the last call.
-fn finish(out: &[u8], label: &[u8], s: Stand) -> u8
+fn finish(rt: HostRuntime, out: &[u8], label: &[u8], s: Stand) -> u8
     requires { s.filled ≤ length out.now }
 {
     let filled = s.filled;
-    let mut good = true;
-    write(&mut good, &out[..filled]);
+    let mut page = io_edge::new_page(rt);
+    write(&mut page, &out[..filled]);
     if s.fault != ENDED {
-        say_wrong(label, s);
+        say_wrong(rt, label, s);
         return io_edge::NOT_DONE;
     }
-    if good {
-        if print_end(s.count) {
+    if page.good {
+        if print_end(rt, s.count) {
             return io_edge::DONE;
         }
     }
@@ -136,21 +136,22 @@ fn text_buffer() -> [u8; 32768]
 }
 
 // All calls of an input. The status then.
-fn calls(fd: i32, label: &[u8]) -> u8 {
+fn calls(rt: HostRuntime, from: &mut Stream, label: &[u8]) -> u8 {
     let mut out = text_buffer();
-    let s = make_all(&mut out, label, fd);
-    finish(&out, label, s)
+    let s = make_all(&mut out, rt, label, from);
+    finish(rt, &out, label, s)
 }
 
 // The arguments are `[--tell] [FILE]`.
-fn main() {
+fn main(rt: HostRuntime) {
     let mut label = io_edge::label_buffer();
-    let tells = io_edge::is_arg(1, b"--tell");
-    let source = io_edge::open_last(b"calls: ", io_edge::behind(1, tells), &mut label);
-    if source.fd < 0 {
-        io_edge::tell(tells, io_edge::NOT_DONE);
+    let tells = io_edge::is_arg(rt, 1, b"--tell");
+    let listener = io_edge::listener(rt, tells);
+    let mut source = io_edge::open_last(rt, b"calls: ", io_edge::behind(1, tells), &mut label);
+    if source.from.is_shut() {
+        io_edge::tell(listener, io_edge::NOT_DONE);
         return;
     }
-    let status = calls(source.fd, &label[..source.labelled]);
-    io_edge::tell(tells, status);
+    let status = calls(rt, &mut source.from, &label[..source.labelled]);
+    io_edge::tell(listener, status);
 }

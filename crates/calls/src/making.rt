@@ -7,6 +7,7 @@ use crate::card_in::card_in;
 use crate::input::{NO_FAULT, UNKNOWN, memory_buffer, take, take_memory, take_words};
 use crate::lines::{put_count, put_made, put_played, put_pulled, put_ran, put_shown, put_written};
 use crate::numbers::{eight_at, two_at};
+use io_edge::Stream;
 use model::Card;
 
 // The byte that says which call.
@@ -25,9 +26,9 @@ const WRITE: u8 = 6;
 const PULL: u8 = 7;
 
 // A card's stored bytes.
-fn take_card(fault: &mut u8, label: &[u8], fd: i32) -> Card {
+fn take_card(fault: &mut u8, rt: HostRuntime, label: &[u8], from: &mut Stream) -> Card {
     let mut bytes = [0u8; 1050];
-    take(fault, label, fd, &mut bytes);
+    take(fault, rt, label, from, &mut bytes);
     card_in(&bytes)
 }
 
@@ -48,17 +49,24 @@ fn play_on(
 }
 
 // Card, area, answer buffer, record.
-fn make_play(fault: &mut u8, label: &[u8], fd: i32, out: &mut [u8], at: usize) -> usize
+fn make_play(
+    fault: &mut u8,
+    rt: HostRuntime,
+    label: &[u8],
+    from: &mut Stream,
+    out: &mut [u8],
+    at: usize,
+) -> usize
     requires { at ≤ length out.old }
     ensures { result ≤ length out.new }
 {
-    let c = take_card(fault, label, fd);
+    let c = take_card(fault, rt, label, from);
     let mut area = memory_buffer();
-    let n = take_memory(fault, label, fd, &mut area);
+    let n = take_memory(fault, rt, label, from, &mut area);
     let mut answer = memory_buffer();
-    let m = take_memory(fault, label, fd, &mut answer);
+    let m = take_memory(fault, rt, label, from, &mut answer);
     let mut record = memory_buffer();
-    let k = take_memory(fault, label, fd, &mut record);
+    let k = take_memory(fault, rt, label, from, &mut record);
     let found = *fault;
     if found != NO_FAULT {
         return at;
@@ -83,17 +91,24 @@ fn run_on(
 }
 
 // Card, area, session, words.
-fn make_run(fault: &mut u8, label: &[u8], fd: i32, out: &mut [u8], at: usize) -> usize
+fn make_run(
+    fault: &mut u8,
+    rt: HostRuntime,
+    label: &[u8],
+    from: &mut Stream,
+    out: &mut [u8],
+    at: usize,
+) -> usize
     requires { at ≤ length out.old }
     ensures { result ≤ length out.new }
 {
-    let c = take_card(fault, label, fd);
+    let c = take_card(fault, rt, label, from);
     let mut area = memory_buffer();
-    let n = take_memory(fault, label, fd, &mut area);
+    let n = take_memory(fault, rt, label, from, &mut area);
     let mut session = memory_buffer();
-    let m = take_memory(fault, label, fd, &mut session);
+    let m = take_memory(fault, rt, label, from, &mut session);
     let mut words = [0u16; 64];
-    let k = take_words(fault, label, fd, &mut words);
+    let k = take_words(fault, rt, label, from, &mut words);
     let found = *fault;
     if found != NO_FAULT {
         return at;
@@ -112,15 +127,22 @@ fn shown_on(c: Card, area: &[u8], sfi: u8, nn: u8, out: &mut [u8], at: usize) ->
 }
 
 // Card, area, SFI, nn.
-fn make_shown(fault: &mut u8, label: &[u8], fd: i32, out: &mut [u8], at: usize) -> usize
+fn make_shown(
+    fault: &mut u8,
+    rt: HostRuntime,
+    label: &[u8],
+    from: &mut Stream,
+    out: &mut [u8],
+    at: usize,
+) -> usize
     requires { at ≤ length out.old }
     ensures { result ≤ length out.new }
 {
-    let c = take_card(fault, label, fd);
+    let c = take_card(fault, rt, label, from);
     let mut area = memory_buffer();
-    let n = take_memory(fault, label, fd, &mut area);
+    let n = take_memory(fault, rt, label, from, &mut area);
     let mut asked = [0u8; 2];
-    take(fault, label, fd, &mut asked);
+    take(fault, rt, label, from, &mut asked);
     let found = *fault;
     if found != NO_FAULT {
         return at;
@@ -129,12 +151,19 @@ fn make_shown(fault: &mut u8, label: &[u8], fd: i32, out: &mut [u8], at: usize) 
 }
 
 // The rows of a set.
-fn make_count(fault: &mut u8, label: &[u8], fd: i32, out: &mut [u8], at: usize) -> usize
+fn make_count(
+    fault: &mut u8,
+    rt: HostRuntime,
+    label: &[u8],
+    from: &mut Stream,
+    out: &mut [u8],
+    at: usize,
+) -> usize
     requires { at ≤ length out.old }
     ensures { result ≤ length out.new }
 {
     let mut rows = [0u8; 2];
-    take(fault, label, fd, &mut rows);
+    take(fault, rt, label, from, &mut rows);
     let found = *fault;
     if found != NO_FAULT {
         return at;
@@ -143,12 +172,19 @@ fn make_count(fault: &mut u8, label: &[u8], fd: i32, out: &mut [u8], at: usize) 
 }
 
 // The fresh card of a chip record.
-fn make_fresh(fault: &mut u8, label: &[u8], fd: i32, out: &mut [u8], at: usize) -> usize
+fn make_fresh(
+    fault: &mut u8,
+    rt: HostRuntime,
+    label: &[u8],
+    from: &mut Stream,
+    out: &mut [u8],
+    at: usize,
+) -> usize
     requires { at ≤ length out.old }
     ensures { result ≤ length out.new }
 {
     let mut chip = memory_buffer();
-    let n = take_memory(fault, label, fd, &mut chip);
+    let n = take_memory(fault, rt, label, from, &mut chip);
     let found = *fault;
     if found != NO_FAULT {
         return at;
@@ -166,16 +202,23 @@ fn write_on(chip: &[u8], order: &[u8], room: &mut [u8], out: &mut [u8], at: usiz
 }
 
 // Chip record, order, room.
-fn make_write(fault: &mut u8, label: &[u8], fd: i32, out: &mut [u8], at: usize) -> usize
+fn make_write(
+    fault: &mut u8,
+    rt: HostRuntime,
+    label: &[u8],
+    from: &mut Stream,
+    out: &mut [u8],
+    at: usize,
+) -> usize
     requires { at ≤ length out.old }
     ensures { result ≤ length out.new }
 {
     let mut chip = memory_buffer();
-    let n = take_memory(fault, label, fd, &mut chip);
+    let n = take_memory(fault, rt, label, from, &mut chip);
     let mut order = memory_buffer();
-    let m = take_memory(fault, label, fd, &mut order);
+    let m = take_memory(fault, rt, label, from, &mut order);
     let mut room = memory_buffer();
-    let k = take_memory(fault, label, fd, &mut room);
+    let k = take_memory(fault, rt, label, from, &mut room);
     let found = *fault;
     if found != NO_FAULT {
         return at;
@@ -194,14 +237,21 @@ fn pull_on(order: &[u8], place: usize, out: &mut [u8], at: usize) -> usize
 }
 
 // Order, place.
-fn make_pull(fault: &mut u8, label: &[u8], fd: i32, out: &mut [u8], at: usize) -> usize
+fn make_pull(
+    fault: &mut u8,
+    rt: HostRuntime,
+    label: &[u8],
+    from: &mut Stream,
+    out: &mut [u8],
+    at: usize,
+) -> usize
     requires { at ≤ length out.old }
     ensures { result ≤ length out.new }
 {
     let mut order = memory_buffer();
-    let n = take_memory(fault, label, fd, &mut order);
+    let n = take_memory(fault, rt, label, from, &mut order);
     let mut place = [0u8; 8];
-    take(fault, label, fd, &mut place);
+    take(fault, rt, label, from, &mut place);
     let found = *fault;
     if found != NO_FAULT {
         return at;
@@ -210,38 +260,62 @@ fn make_pull(fault: &mut u8, label: &[u8], fd: i32, out: &mut [u8], at: usize) -
 }
 
 // The calls on a card.
-fn make_on_card(kind: u8, fault: &mut u8, label: &[u8], fd: i32, out: &mut [u8], at: usize) -> usize
+fn make_on_card(
+    kind: u8,
+    fault: &mut u8,
+    rt: HostRuntime,
+    label: &[u8],
+    from: &mut Stream,
+    out: &mut [u8],
+    at: usize,
+) -> usize
     requires { at ≤ length out.old }
     ensures { result ≤ length out.new }
 {
     if kind == PLAY {
-        return make_play(fault, label, fd, out, at);
+        return make_play(fault, rt, label, from, out, at);
     }
     if kind == RUN {
-        return make_run(fault, label, fd, out, at);
+        return make_run(fault, rt, label, from, out, at);
     }
-    make_shown(fault, label, fd, out, at)
+    make_shown(fault, rt, label, from, out, at)
 }
 
 // The others.
-fn make_other(kind: u8, fault: &mut u8, label: &[u8], fd: i32, out: &mut [u8], at: usize) -> usize
+fn make_other(
+    kind: u8,
+    fault: &mut u8,
+    rt: HostRuntime,
+    label: &[u8],
+    from: &mut Stream,
+    out: &mut [u8],
+    at: usize,
+) -> usize
     requires { at ≤ length out.old }
     ensures { result ≤ length out.new }
 {
     if kind == COUNT {
-        return make_count(fault, label, fd, out, at);
+        return make_count(fault, rt, label, from, out, at);
     }
     if kind == FRESH {
-        return make_fresh(fault, label, fd, out, at);
+        return make_fresh(fault, rt, label, from, out, at);
     }
     if kind == WRITE {
-        return make_write(fault, label, fd, out, at);
+        return make_write(fault, rt, label, from, out, at);
     }
-    make_pull(fault, label, fd, out, at)
+    make_pull(fault, rt, label, from, out, at)
 }
 
 // The call of a byte, and its line. There is none where anything is at fault before it.
-pub fn make(kind: u8, fault: &mut u8, label: &[u8], fd: i32, out: &mut [u8], at: usize) -> usize
+pub fn make(
+    kind: u8,
+    fault: &mut u8,
+    rt: HostRuntime,
+    label: &[u8],
+    from: &mut Stream,
+    out: &mut [u8],
+    at: usize,
+) -> usize
     requires { at ≤ length out.old }
     ensures { result ≤ length out.new }
 {
@@ -258,7 +332,7 @@ pub fn make(kind: u8, fault: &mut u8, label: &[u8], fd: i32, out: &mut [u8], at:
         return at;
     }
     if kind <= SHOWN {
-        return make_on_card(kind, fault, label, fd, out, at);
+        return make_on_card(kind, fault, rt, label, from, out, at);
     }
-    make_other(kind, fault, label, fd, out, at)
+    make_other(kind, fault, rt, label, from, out, at)
 }

@@ -4,6 +4,8 @@
 
 ghost use Rattle.std.specs.Prelude.{◌≡◌, length};
 
+use io_edge::Stream;
+
 // The chip record, and the longest session of a complete order: 47 records.
 fn job_room() -> [u8; 12260]
     ensures { 12260 ≡ length result }
@@ -12,42 +14,48 @@ fn job_room() -> [u8; 12260]
 }
 
 // A job's session, or its refusal. `lines` are those of its text, none where it is no text.
-fn cut(label: &[u8], job: &[u8], lines: &[u32]) -> u8 {
+fn cut(rt: HostRuntime, label: &[u8], job: &[u8], lines: &[u32]) -> u8 {
     let end = io_intake::chip_end(job);
     let mut room = job_room();
     let laid = job_session::lay_job(&job[..end], &job[end..], &mut room);
     if laid.number != 0 {
-        io_intake::say_refused(label, laid.number, job, lines);
+        io_intake::say_refused(rt, label, laid.number, job, lines);
         return io_edge::REFUSED;
     }
-    if io_edge::print(b"cut: standard output", &room[..laid.size]) {
+    if io_edge::print(rt, b"cut: standard output", &room[..laid.size]) {
         return io_edge::DONE;
     }
     io_edge::NOT_DONE
 }
 
-fn run(label: &[u8], fd: i32, is_text: bool) -> u8 {
+fn run(rt: HostRuntime, label: &[u8], from: &mut Stream, is_text: bool) -> u8 {
     let mut room = io_intake::job_buffer();
     let mut lines = io_intake::line_buffer();
-    let job = io_intake::take(fd, is_text, &mut room, &mut lines);
+    let job = io_intake::take(from, is_text, &mut room, &mut lines);
     if job.fault != io_intake::FINE {
-        io_intake::say_unread(label, job);
+        io_intake::say_unread(rt, label, job);
         return io_edge::NOT_DONE;
     }
-    cut(label, &room[..job.count], &lines[..job.known])
+    cut(rt, label, &room[..job.count], &lines[..job.known])
 }
 
 // The arguments are `[--tell] [--hex] [FILE]`.
-fn main() {
+fn main(rt: HostRuntime) {
     let mut label = io_edge::label_buffer();
-    let tells = io_edge::is_arg(1, b"--tell");
+    let tells = io_edge::is_arg(rt, 1, b"--tell");
+    let listener = io_edge::listener(rt, tells);
     let i = io_edge::behind(1, tells);
-    let hex = io_edge::is_arg(i, b"--hex");
-    let source = io_edge::open_last(b"cut: ", io_edge::behind(i, hex), &mut label);
-    if source.fd < 0 {
-        io_edge::tell(tells, io_edge::NOT_DONE);
+    let hex = io_edge::is_arg(rt, i, b"--hex");
+    let mut source = io_edge::open_last(rt, b"cut: ", io_edge::behind(i, hex), &mut label);
+    if source.from.is_shut() {
+        io_edge::tell(listener, io_edge::NOT_DONE);
         return;
     }
-    let status = run(&label[..source.labelled], source.fd, hex || source.is_text);
-    io_edge::tell(tells, status);
+    let status = run(
+        rt,
+        &label[..source.labelled],
+        &mut source.from,
+        hex || source.is_text,
+    );
+    io_edge::tell(listener, status);
 }

@@ -5,6 +5,7 @@
 
 ghost use Rattle.std.specs.Prelude.{◌≡◌, ◌+◌, ◌*◌, ◌<◌, ◌≤◌, length};
 
+use io_edge::{Page, Stream};
 use job_text::{Mode, Place, Reading};
 use model::{CHIP_SIZE, Header};
 
@@ -23,18 +24,18 @@ const LINE_FEED: u8 = 0x0A;
 
 const DASH: u8 = 0x2D;
 
-// `good` says that all went out so far. Where a write fails, nothing is written behind it.
-fn write(good: &mut bool, text: &[u8]) {
-    io_edge::print_on(good, b"groupings: standard output", text);
+// Where a write failed, nothing is written behind it.
+fn write(page: &mut Page, text: &[u8]) {
+    io_edge::print_on(page, b"groupings: standard output", text);
 }
 
 // How much of the buffer stays filled where so many more characters come: all, or none of it once it is written.
-fn room_for(good: &mut bool, out: &[u8], filled: usize, more: usize) -> usize
+fn room_for(page: &mut Page, out: &[u8], filled: usize, more: usize) -> usize
     requires { (filled ≤ length out.now) × (more ≤ length out.now) }
     ensures { result + more ≤ length out.now }
 {
     if out.len() - filled < more {
-        write(good, &out[..filled]);
+        write(page, &out[..filled]);
         return 0;
     }
     filled
@@ -42,36 +43,36 @@ fn room_for(good: &mut bool, out: &[u8], filled: usize, more: usize) -> usize
 
 // Every `put` function writes behind what is filled, and gives how much is filled then.
 
-fn put_character(good: &mut bool, out: &mut [u8], filled: usize, c: u8) -> usize
+fn put_character(page: &mut Page, out: &mut [u8], filled: usize, c: u8) -> usize
     requires { (filled ≤ length out.old) × (8192 ≤ length out.old) }
     ensures { result ≤ length out.old }
 {
-    let at = room_for(good, out, filled, 1);
+    let at = room_for(page, out, filled, 1);
     out[at] = c;
     at + 1
 }
 
 // A tag and the blank behind it.
-fn put_tag(good: &mut bool, out: &mut [u8], filled: usize, tag: u16) -> usize
+fn put_tag(page: &mut Page, out: &mut [u8], filled: usize, tag: u16) -> usize
     requires { (filled ≤ length out.old) × (8192 ≤ length out.old) }
     ensures { result ≤ length out.old }
 {
-    let at = room_for(good, out, filled, 5);
+    let at = room_for(page, out, filled, 5);
     print_numbers::put_hex4(out, at, tag);
     out[at + 4] = BLANK;
     at + 5
 }
 
-fn put_piece(good: &mut bool, out: &mut [u8], filled: usize, piece: &[u8]) -> usize
+fn put_piece(page: &mut Page, out: &mut [u8], filled: usize, piece: &[u8]) -> usize
     requires { (filled ≤ length out.old) × (8192 ≤ length out.old) × (length piece.now ≤ 4096) }
     ensures { result ≤ length out.old }
 {
-    let at = room_for(good, out, filled, 2 * piece.len());
+    let at = room_for(page, out, filled, 2 * piece.len());
     print_numbers::put_hex(out, at, piece)
 }
 
 // Bytes of a value in hexadecimal.
-fn put_bytes(good: &mut bool, out: &mut [u8], filled: usize, value: &[u8]) -> usize
+fn put_bytes(page: &mut Page, out: &mut [u8], filled: usize, value: &[u8]) -> usize
     requires { (filled ≤ length out.old) × (8192 ≤ length out.old) }
     ensures { result ≤ length out.old }
 {
@@ -79,7 +80,7 @@ fn put_bytes(good: &mut bool, out: &mut [u8], filled: usize, value: &[u8]) -> us
     let mut i: usize = 0;
     while i < value.len() {
         let n = memory::least(value.len() - i, PIECE);
-        to = put_piece(good, out, to, &value[i..i + n]);
+        to = put_piece(page, out, to, &value[i..i + n]);
         i += n;
     }
     to
@@ -110,21 +111,21 @@ fn put_line(out: &mut [u8], at: usize, tag: u16, value: &[u8]) -> usize
 }
 
 // The line of a grouping: at once where the buffer can hold it, else in pieces.
-fn put_grouping(good: &mut bool, out: &mut [u8], filled: usize, tag: u16, value: &[u8]) -> usize
+fn put_grouping(page: &mut Page, out: &mut [u8], filled: usize, tag: u16, value: &[u8]) -> usize
     requires { (filled ≤ length out.old) × (8192 ≤ length out.old) }
     ensures { result ≤ length out.old }
 {
     if value.len() < PIECE - LINE_MORE {
-        let at = room_for(good, out, filled, 2 * value.len() + LINE_MORE);
+        let at = room_for(page, out, filled, 2 * value.len() + LINE_MORE);
         return put_line(out, at, tag, value);
     }
-    let first = put_tag(good, out, filled, tag);
-    let second = put_bytes(good, out, first, value);
-    put_character(good, out, second, LINE_FEED)
+    let first = put_tag(page, out, filled, tag);
+    let second = put_bytes(page, out, first, value);
+    put_character(page, out, second, LINE_FEED)
 }
 
 // How far a window is used up, how much of the buffer is filled, and how many bytes of a long value are still to come.
-#[derive(Drop)]
+#[derive(Clone, Copy)]
 struct Used {
     pub at: usize,
     pub filled: usize,
@@ -132,7 +133,7 @@ struct Used {
 }
 
 // The lines of the groupings that are whole in a window.
-fn print_whole(good: &mut bool, order: &[u8], out: &mut [u8], start: usize) -> Used
+fn print_whole(page: &mut Page, order: &[u8], out: &mut [u8], start: usize) -> Used
     requires { (start ≤ length out.old) × (8192 ≤ length out.old) }
     ensures { (result.at ≤ length order.now) × (result.filled ≤ length out.old) }
 {
@@ -148,7 +149,7 @@ fn print_whole(good: &mut bool, order: &[u8], out: &mut [u8], start: usize) -> U
             };
         }
         let value = order_reader::value_of(order, found);
-        filled = put_grouping(good, out, filled, found.tag, value);
+        filled = put_grouping(page, out, filled, found.tag, value);
         at = found.next;
     }
     Used {
@@ -159,7 +160,7 @@ fn print_whole(good: &mut bool, order: &[u8], out: &mut [u8], start: usize) -> U
 }
 
 // The start of a long value's line, where a window begins with such a grouping: the rest of the line goes as it comes.
-fn print_long(good: &mut bool, order: &[u8], out: &mut [u8], filled: usize) -> Used
+fn print_long(page: &mut Page, order: &[u8], out: &mut [u8], filled: usize) -> Used
     requires { (filled ≤ length out.old) × (8192 ≤ length out.old) }
     ensures { (result.at ≤ length order.now) × (result.filled ≤ length out.old) }
 {
@@ -180,7 +181,7 @@ fn print_long(good: &mut bool, order: &[u8], out: &mut [u8], filled: usize) -> U
             }
             Used {
                 at: memory::least(head.size, order.len()),
-                filled: put_tag(good, out, filled, head.tag),
+                filled: put_tag(page, out, filled, head.tag),
                 owed: head.len,
             }
         }
@@ -188,12 +189,12 @@ fn print_long(good: &mut bool, order: &[u8], out: &mut [u8], filled: usize) -> U
 }
 
 // More of a long value, and the end of its line behind the last byte.
-fn print_more(good: &mut bool, order: &[u8], out: &mut [u8], filled: usize, owed: usize) -> Used
+fn print_more(page: &mut Page, order: &[u8], out: &mut [u8], filled: usize, owed: usize) -> Used
     requires { (filled ≤ length out.old) × (8192 ≤ length out.old) }
     ensures { (result.at ≤ length order.now) × (result.filled ≤ length out.old) }
 {
     let n = memory::least(owed, order.len());
-    let to = put_bytes(good, out, filled, &order[..n]);
+    let to = put_bytes(page, out, filled, &order[..n]);
     if n < owed {
         return Used {
             at: n,
@@ -203,24 +204,24 @@ fn print_more(good: &mut bool, order: &[u8], out: &mut [u8], filled: usize, owed
     }
     Used {
         at: n,
-        filled: put_character(good, out, to, LINE_FEED),
+        filled: put_character(page, out, to, LINE_FEED),
         owed: 0,
     }
 }
 
 // Prints what can be printed of a window. Nothing of it is used up where the order is at its end, or torn.
-fn print_window(good: &mut bool, order: &[u8], out: &mut [u8], filled: usize, owed: usize) -> Used
+fn print_window(page: &mut Page, order: &[u8], out: &mut [u8], filled: usize, owed: usize) -> Used
     requires { (filled ≤ length out.old) × (8192 ≤ length out.old) }
     ensures { (result.at ≤ length order.now) × (result.filled ≤ length out.old) }
 {
     if 0 < owed {
-        return print_more(good, order, out, filled, owed);
+        return print_more(page, order, out, filled, owed);
     }
-    let used = print_whole(good, order, out, filled);
+    let used = print_whole(page, order, out, filled);
     if 0 < used.at {
         return used;
     }
-    print_long(good, order, out, used.filled)
+    print_long(page, order, out, used.filled)
 }
 
 // The bytes from one place to another, moved to the front. How many they are.
@@ -243,17 +244,16 @@ const CHUNK: usize = 512;
 // The kind of a text's fault that is half a byte; any other is a character that is no digit.
 const HALF: u8 = 2;
 
-// What is read, whether it is text, where the reader of text stands, and whether there is no more.
-#[derive(Drop)]
+// Whether what is read is text, where the reader of text stands, and whether there is no more.
+#[derive(Clone, Copy)]
 struct Input {
-    pub fd: i32,
     pub is_text: bool,
     pub place: Place,
     pub ended: bool,
 }
 
 // How far a window is filled, what is left to read, and whether that failed, which was said.
-#[derive(Drop)]
+#[derive(Clone, Copy)]
 struct Filled {
     pub end: usize,
     pub input: Input,
@@ -265,7 +265,6 @@ fn filled_to(end: usize, input: Input, ended: bool, failed: bool) -> Filled
 {
     let place = input.place;
     let next = Input {
-        fd: input.fd,
         is_text: input.is_text,
         place: place,
         ended: ended,
@@ -278,11 +277,18 @@ fn filled_to(end: usize, input: Input, ended: bool, failed: bool) -> Filled
 }
 
 // Fills the window with bytes.
-fn fill_bytes(window: &mut [u8], kept: usize, input: Input, label: &[u8]) -> Filled
+fn fill_bytes(
+    rt: HostRuntime,
+    from: &mut Stream,
+    window: &mut [u8],
+    kept: usize,
+    input: Input,
+    label: &[u8],
+) -> Filled
     requires { kept ≤ length window.old }
     ensures { result.end ≤ length window.new }
 {
-    let got = io_edge::read_labelled(label, input.fd, &mut window[kept..]);
+    let got = io_edge::read_labelled(rt, label, from, &mut window[kept..]);
     let end = kept + got.count;
     filled_to(end, input, end < window.len(), got.failed)
 }
@@ -296,13 +302,13 @@ fn fault_in(mode: Mode) -> u8 {
 }
 
 // Whether the text is wrong, which is said.
-fn is_wrong(label: &[u8], r: Reading) -> bool {
+fn is_wrong(rt: HostRuntime, label: &[u8], r: Reading) -> bool {
     let mode = r.mode;
     let fault = fault_in(mode);
     if fault == 0 {
         return false;
     }
-    io_edge::say_fault(label, fault == HALF, r.line, r.column);
+    io_edge::say_fault(rt, label, fault == HALF, r.line, r.column);
     true
 }
 
@@ -337,14 +343,13 @@ fn closed(r: Reading, last: bool) -> Reading {
 }
 
 // What a chunk came to.
-fn after_chunk(end: usize, fd: i32, r: Reading, last: bool, label: &[u8]) -> Filled
+fn after_chunk(rt: HostRuntime, end: usize, r: Reading, last: bool, label: &[u8]) -> Filled
     ensures { result.end ≡ end }
 {
     let reading = closed(r, last);
-    let wrong = is_wrong(label, reading);
+    let wrong = is_wrong(rt, label, reading);
     let place = place_of(reading);
     let next = Input {
-        fd: fd,
         is_text: true,
         place: place,
         ended: last || wrong,
@@ -357,12 +362,19 @@ fn after_chunk(end: usize, fd: i32, r: Reading, last: bool, label: &[u8]) -> Fil
 }
 
 // The bytes of the next characters, behind what is filled of a window.
-fn take_chunk(window: &mut [u8], filled: usize, input: Input, label: &[u8]) -> Filled
+fn take_chunk(
+    rt: HostRuntime,
+    from: &mut Stream,
+    window: &mut [u8],
+    filled: usize,
+    input: Input,
+    label: &[u8],
+) -> Filled
     requires { filled + 512 ≤ length window.old }
     ensures { result.end ≤ length window.new }
 {
     let mut chars = [0u8; 512];
-    let got = io_edge::read_labelled(label, input.fd, &mut chars);
+    let got = io_edge::read_labelled(rt, label, from, &mut chars);
     if got.failed {
         return filled_to(filled, input, true, true);
     }
@@ -375,34 +387,46 @@ fn take_chunk(window: &mut [u8], filled: usize, input: Input, label: &[u8]) -> F
         &mut window[filled..filled + CHUNK],
         &mut lines,
     );
-    after_chunk(filled + r.count, input.fd, r, n < CHUNK, label)
+    after_chunk(rt, filled + r.count, r, n < CHUNK, label)
 }
 
 // Fills the window with the bytes of text, as long as those of a chunk have room.
-fn fill_text(window: &mut [u8], kept: usize, input: Input, label: &[u8]) -> Filled
+fn fill_text(
+    rt: HostRuntime,
+    from: &mut Stream,
+    window: &mut [u8],
+    kept: usize,
+    input: Input,
+    label: &[u8],
+) -> Filled
     requires { kept ≤ length window.old }
     ensures { result.end ≤ length window.new }
 {
     let mut end = kept;
     let mut left = input;
-    let mut turns = u64::MAX;
-    while 0 < turns {
+    for _ in 0..u64::MAX {
         if window.len() - end < CHUNK {
             return filled_to(end, left, false, false);
         }
-        let f = take_chunk(window, end, left, label);
+        let f = take_chunk(rt, from, window, end, left, label);
         end = f.end;
         left = f.input;
         if left.ended {
             return filled_to(end, left, true, f.failed);
         }
-        turns -= 1;
     }
     filled_to(end, left, true, true)
 }
 
 // Fills the window behind what is kept of it. An input that has ended is not read again.
-fn fill(window: &mut [u8], kept: usize, input: Input, label: &[u8]) -> Filled
+fn fill(
+    rt: HostRuntime,
+    from: &mut Stream,
+    window: &mut [u8],
+    kept: usize,
+    input: Input,
+    label: &[u8],
+) -> Filled
     requires { kept ≤ length window.old }
     ensures { result.end ≤ length window.new }
 {
@@ -410,13 +434,13 @@ fn fill(window: &mut [u8], kept: usize, input: Input, label: &[u8]) -> Filled
         return filled_to(kept, input, true, false);
     }
     if input.is_text {
-        return fill_text(window, kept, input, label);
+        return fill_text(rt, from, window, kept, input, label);
     }
-    fill_bytes(window, kept, input, label)
+    fill_bytes(rt, from, window, kept, input, label)
 }
 
 // How much of an order's front is in the window, what is left to read, and whether that went well.
-#[derive(Drop)]
+#[derive(Clone, Copy)]
 struct Front {
     pub kept: usize,
     pub input: Input,
@@ -434,8 +458,9 @@ fn front_of(kept: usize, input: Input, status: u8) -> Front
 }
 
 // A chip record that is too short.
-fn say_short(label: &[u8], n: usize) {
+fn say_short(rt: HostRuntime, label: &[u8], n: usize) {
     io_edge::say_form(
+        rt,
         label,
         b": the chip record has # byte~, and it must have 40\n",
         &[n as u64],
@@ -443,17 +468,23 @@ fn say_short(label: &[u8], n: usize) {
 }
 
 // Passes over the chip record.
-fn pass_chip(window: &mut [u8], input: Input, label: &[u8]) -> Front
+fn pass_chip(
+    rt: HostRuntime,
+    from: &mut Stream,
+    window: &mut [u8],
+    input: Input,
+    label: &[u8],
+) -> Front
     ensures { result.kept ≤ length window.old }
 {
-    let f = fill(window, 0, input, label);
+    let f = fill(rt, from, window, 0, input, label);
     let end = f.end;
     let next = f.input;
     if f.failed {
         return front_of(0, next, io_edge::NOT_DONE);
     }
     if end < CHIP_SIZE {
-        say_short(label, end);
+        say_short(rt, label, end);
         return front_of(0, next, io_edge::REFUSED);
     }
     let n = keep(window, CHIP_SIZE, end);
@@ -461,11 +492,18 @@ fn pass_chip(window: &mut [u8], input: Input, label: &[u8]) -> Front
 }
 
 // The front of the order.
-fn open_order(window: &mut [u8], input: Input, is_job: bool, label: &[u8]) -> Front
+fn open_order(
+    rt: HostRuntime,
+    from: &mut Stream,
+    window: &mut [u8],
+    input: Input,
+    is_job: bool,
+    label: &[u8],
+) -> Front
     ensures { result.kept ≤ length window.old }
 {
     if is_job {
-        return pass_chip(window, input, label);
+        return pass_chip(rt, from, window, input, label);
     }
     front_of(0, input, io_edge::DONE)
 }
@@ -473,7 +511,7 @@ fn open_order(window: &mut [u8], input: Input, is_job: bool, label: &[u8]) -> Fr
 // Where the reading stands: how much is kept at the window's front and filled of the buffer, how many bytes of a long
 // value are still to come, where the window's front lies in the order and where the grouping under way begins, and
 // what is left to read, whether to go on, and whether a read or a write failed, which was said.
-#[derive(Drop)]
+#[derive(Clone, Copy)]
 struct Stand {
     pub kept: usize,
     pub filled: usize,
@@ -510,35 +548,50 @@ fn stopped(s: Stand) -> Stand
 }
 
 // Fills the window, prints what can be printed of it, and keeps the rest.
-fn print_next(window: &mut [u8], out: &mut [u8], s: Stand, label: &[u8]) -> Stand
+fn print_next(
+    rt: HostRuntime,
+    from: &mut Stream,
+    window: &mut [u8],
+    out: &mut [u8],
+    s: Stand,
+    label: &[u8],
+) -> Stand
     requires { (s.kept ≤ length window.old) × (s.filled ≤ length out.old) × (8192 ≤ length out.old) }
     ensures { (result.kept ≤ length window.old) × (result.filled ≤ length out.old) }
 {
     let input = s.input;
-    let f = fill(window, s.kept, input, label);
+    let f = fill(rt, from, window, s.kept, input, label);
     let end = f.end;
     let next = f.input;
     if f.failed {
         return stopped(s);
     }
-    let mut good = true;
-    let used = print_window(&mut good, &window[..end], out, s.filled, s.owed);
+    let mut page = io_edge::new_page(rt);
+    let used = print_window(&mut page, &window[..end], out, s.filled, s.owed);
     let n = keep(window, used.at, end);
     Stand {
         kept: n,
         filled: used.filled,
         owed: used.owed,
-        front: std::num::wrapping_add_u64(s.front, used.at as u64),
+        front: s.front.wrapping_add(used.at as u64),
         began: began_at(s),
         input: next,
-        going: 0 < used.at && good,
-        failed: !good,
+        going: 0 < used.at && page.good,
+        failed: !page.good,
     }
 }
 
-// Window after window to the end of the order, or to where it is torn. The loops here count their turns down from a
-// number that no run uses up, since nothing says that an input ends.
-fn print_order(window: &mut [u8], out: &mut [u8], kept: usize, input: Input, label: &[u8]) -> Stand
+// Window after window to the end of the order, or to where it is torn. The loops here have more turns than a run uses
+// up, since nothing says that an input ends.
+fn print_order(
+    rt: HostRuntime,
+    from: &mut Stream,
+    window: &mut [u8],
+    out: &mut [u8],
+    kept: usize,
+    input: Input,
+    label: &[u8],
+) -> Stand
     requires { (kept ≤ length window.old) × (8192 ≤ length out.old) }
     ensures { result.filled ≤ length out.old }
 {
@@ -552,32 +605,35 @@ fn print_order(window: &mut [u8], out: &mut [u8], kept: usize, input: Input, lab
         going: true,
         failed: false,
     };
-    let mut turns = u64::MAX;
-    while 0 < turns {
-        s = print_next(window, out, s, label);
+    for _ in 0..u64::MAX {
+        s = print_next(rt, from, window, out, s, label);
         if !s.going {
             return s;
         }
-        turns -= 1;
     }
     s
 }
 
 // How many bytes of the input were left, and whether a read failed, which was said.
-#[derive(Drop)]
+#[derive(Clone, Copy)]
 struct Rest {
     pub count: u64,
     pub failed: bool,
 }
 
 // Reads to the end of the input: an order's length is known only then.
-fn read_rest(window: &mut [u8], input: Input, label: &[u8]) -> Rest {
+fn read_rest(
+    rt: HostRuntime,
+    from: &mut Stream,
+    window: &mut [u8],
+    input: Input,
+    label: &[u8],
+) -> Rest {
     let mut count: u64 = 0;
     let mut left = input;
-    let mut turns = u64::MAX;
-    while 0 < turns {
-        let f = fill(window, 0, left, label);
-        count = std::num::wrapping_add_u64(count, f.end as u64);
+    for _ in 0..u64::MAX {
+        let f = fill(rt, from, window, 0, left, label);
+        count = count.wrapping_add(f.end as u64);
         left = f.input;
         if left.ended {
             return Rest {
@@ -585,7 +641,6 @@ fn read_rest(window: &mut [u8], input: Input, label: &[u8]) -> Rest {
                 failed: f.failed,
             };
         }
-        turns -= 1;
     }
     Rest {
         count: count,
@@ -602,12 +657,12 @@ fn is_torn(s: Stand) -> bool {
 }
 
 // What is filled of the buffer, the end of a line that was broken off, and the last line. Whether all went out.
-fn print_ending(out: &[u8], s: Stand) -> bool
+fn print_ending(rt: HostRuntime, out: &[u8], s: Stand) -> bool
     requires { s.filled ≤ length out.now }
 {
     let filled = s.filled;
     let breaks = 0 < s.owed;
-    let mut good = true;
+    let mut page = io_edge::new_page(rt);
     let mut line = [0u8; 32];
     let n = print_forms::put_form(
         &mut line,
@@ -615,17 +670,18 @@ fn print_ending(out: &[u8], s: Stand) -> bool
         b"%{\x01\n|}%{\x00end|\x01torn|}\n",
         &[breaks as u64, is_torn(s) as u64],
     );
-    write(&mut good, &out[..filled]);
-    write(&mut good, &line[..n]);
-    good
+    write(&mut page, &out[..filled]);
+    write(&mut page, &line[..n]);
+    page.good
 }
 
-fn say_torn(label: &[u8], s: Stand, rest: u64) {
-    let read = std::num::wrapping_add_u64(s.front, s.kept as u64);
+fn say_torn(rt: HostRuntime, label: &[u8], s: Stand, rest: u64) {
+    let read = s.front.wrapping_add(s.kept as u64);
     io_edge::say_form(
+        rt,
         label,
         b": torn at byte # of #: a header or a value is not whole there\n",
-        &[s.began, std::num::wrapping_add_u64(read, rest)],
+        &[s.began, read.wrapping_add(rest)],
     );
 }
 
@@ -642,27 +698,27 @@ fn text_buffer() -> [u8; 16384]
     [0; 16384]
 }
 
-fn groupings(input: Input, is_job: bool, label: &[u8]) -> u8 {
+fn groupings(rt: HostRuntime, from: &mut Stream, input: Input, is_job: bool, label: &[u8]) -> u8 {
     let mut window = window_buffer();
     let mut out = text_buffer();
-    let begun = open_order(&mut window, input, is_job, label);
+    let begun = open_order(rt, from, &mut window, input, is_job, label);
     if begun.status != io_edge::DONE {
         return begun.status;
     }
     let first = begun.input;
-    let s = print_order(&mut window, &mut out, begun.kept, first, label);
+    let s = print_order(rt, from, &mut window, &mut out, begun.kept, first, label);
     if s.failed {
         return io_edge::NOT_DONE;
     }
     let left = s.input;
-    let rest = read_rest(&mut window, left, label);
+    let rest = read_rest(rt, from, &mut window, left, label);
     if rest.failed {
         return io_edge::NOT_DONE;
     }
-    if print_ending(&out, s) {
+    if print_ending(rt, &out, s) {
         let torn = is_torn(s);
         if torn {
-            say_torn(label, s, rest.count);
+            say_torn(rt, label, s, rest.count);
         }
         return io_edge::status_of(torn);
     }
@@ -670,10 +726,9 @@ fn groupings(input: Input, is_job: bool, label: &[u8]) -> u8 {
 }
 
 // Nothing is read yet.
-fn unread(fd: i32, is_text: bool) -> Input {
+fn unread(is_text: bool) -> Input {
     let place = place_of(job_text::start());
     Input {
-        fd: fd,
         is_text: is_text,
         place: place,
         ended: false,
@@ -681,19 +736,31 @@ fn unread(fd: i32, is_text: bool) -> Input {
 }
 
 // The arguments are `[--tell] [--job] [--hex] [FILE]`.
-fn main() {
+fn main(rt: HostRuntime) {
     let mut label = io_edge::label_buffer();
-    let tells = io_edge::is_arg(1, b"--tell");
+    let tells = io_edge::is_arg(rt, 1, b"--tell");
+    let listener = io_edge::listener(rt, tells);
     let first = io_edge::behind(1, tells);
-    let is_job = io_edge::is_arg(first, b"--job");
+    let is_job = io_edge::is_arg(rt, first, b"--job");
     let second = io_edge::behind(first, is_job);
-    let hex = io_edge::is_arg(second, b"--hex");
-    let source = io_edge::open_last(b"groupings: ", io_edge::behind(second, hex), &mut label);
-    if source.fd < 0 {
-        io_edge::tell(tells, io_edge::NOT_DONE);
+    let hex = io_edge::is_arg(rt, second, b"--hex");
+    let mut source = io_edge::open_last(
+        rt,
+        b"groupings: ",
+        io_edge::behind(second, hex),
+        &mut label,
+    );
+    if source.from.is_shut() {
+        io_edge::tell(listener, io_edge::NOT_DONE);
         return;
     }
-    let input = unread(source.fd, hex || source.is_text);
-    let status = groupings(input, is_job, &label[..source.labelled]);
-    io_edge::tell(tells, status);
+    let input = unread(hex || source.is_text);
+    let status = groupings(
+        rt,
+        &mut source.from,
+        input,
+        is_job,
+        &label[..source.labelled],
+    );
+    io_edge::tell(listener, status);
 }

@@ -6,7 +6,7 @@ mod files;
 mod source;
 mod text;
 
-ghost use Rattle.std.specs.Prelude.{◌≡◌, cond, ◌≤◌, length, take, OnOk};
+ghost use Rattle.std.specs.Prelude.{◌≡◌, cond, ◌≤◌, length, take, OnOk, true};
 ghost use Rattle.std.specs.Io.KnownBytes.{Consumes, Appends};
 ghost use Rattle.io_edge.specs.Counts.{IsPrefixLen};
 
@@ -135,10 +135,23 @@ pub fn print(rt: HostRuntime, label: &[u8], bytes: &[u8]) -> bool {
     }
 }
 
-// `good` says that all went out so far. Where a write fails, nothing is written behind it.
-pub fn print_on(rt: HostRuntime, good: &mut bool, label: &[u8], bytes: &[u8]) {
-    if *good {
-        *good = print(rt, label, bytes);
+// What goes to standard output, and whether all went out so far.
+#[derive(Clone, Copy)]
+pub struct Page {
+    pub rt: HostRuntime,
+    pub good: bool,
+}
+
+pub fn new_page(rt: HostRuntime) -> Page
+    ensures { result.good ≡ true }
+{
+    Page { rt: rt, good: true }
+}
+
+// Where a write failed, nothing is written behind it.
+pub fn print_on(page: &mut Page, label: &[u8], bytes: &[u8]) {
+    if page.good {
+        page.good = print(page.rt, label, bytes);
     }
 }
 

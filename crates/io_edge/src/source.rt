@@ -111,6 +111,12 @@ impl Read for Stream {
     }
 }
 
+// The file of a name.
+pub fn open_stream(rt: HostRuntime, name: &[u8]) -> io::Result<Stream> {
+    let file = open_read(rt, name)?;
+    Ok(Stream::Named(file))
+}
+
 // What a program reads, how long its label is, and whether its name is that of a text.
 #[derive(Drop)]
 pub struct Source {
@@ -150,9 +156,9 @@ fn open_label(rt: HostRuntime, label: &[u8], filled: usize) -> Source
     ensures { result.labelled ≡ length label.now }
 {
     let name = &label[filled..];
-    match open_read(rt, name) {
-        Ok(file) => Source {
-            from: Stream::Named(file),
+    match open_stream(rt, name) {
+        Ok(from) => Source {
+            from: from,
             labelled: label.len(),
             is_text: is_text_name(name),
         },

@@ -1,14 +1,16 @@
 // A job from its file, as bytes or as hexadecimal text, in lent room; and what is said where it cannot be read or is
+// refused.
 #![tactic(auto)]
 
-use model::{CAPACITY, CHIP_SIZE, ORDER_LIMIT};
-// refused.
 ghost use Rattle.std.specs.Prelude.{◌≡◌, ◌+◌, ◌≤◌, length};
 ghost use Rattle.io_edge.specs.Counts.{IsPrefixLen};
 
+use io_edge::Stream;
 use job_text::{Mode, Reading};
+use model::{CAPACITY, CHIP_SIZE, ORDER_LIMIT};
 use reason_stops::{Cause, Stop};
 use reason_why::Why;
+use std::io;
 
 const BLOCK_SIZE: usize = 1024;
 
@@ -39,26 +41,43 @@ pub fn record_buffer() -> [u8; 12220]
     [0; 12220]
 }
 
-// How many bytes were read, of how many of them the line is known, how that ended, and the place of a text's fault.
-#[derive(Drop)]
+// How many bytes were read, of how many of them the line is known, how that ended, and the place of a text's fault, or
+// why a read failed.
+#[derive(Clone, Copy)]
 pub struct Job {
     pub count: usize,
     pub known: usize,
     pub fault: u8,
     pub line: u32,
     pub column: u32,
+    pub why: Option<io::Error>,
 }
 
-// A job as bytes, or one that could not be read.
-fn job_of(count: usize, fault: u8) -> Job
+// A job as bytes.
+fn job_of(count: usize) -> Job
     ensures { (result.count ≡ count) × (result.known ≡ 0) }
 {
     Job {
         count: count,
         known: 0,
-        fault: fault,
+        fault: FINE,
         line: 0,
         column: 0,
+        why: None,
+    }
+}
+
+// A job that could not be read.
+fn unread(why: Option<io::Error>) -> Job
+    ensures { (result.count ≡ 0) × (result.known ≡ 0) }
+{
+    Job {
+        count: 0,
+        known: 0,
+        fault: UNREAD,
+        line: 0,
+        column: 0,
+        why: why,
     }
 }
 
@@ -80,6 +99,7 @@ fn ended(count: usize, last: Reading) -> Job
         fault: fault_in(mode),
         line: last.line,
         column: last.column,
+        why: None,
     }
 }
 
@@ -90,48 +110,45 @@ fn block_buffer() -> [u8; 1024]
     [0; 1024]
 }
 
-// Block after block. The loop counts its turns down from a number that no run uses up, since nothing says that an
-// input ends.
-fn take_text(fd: i32, room: &mut [u8], lines: &mut [u32]) -> Job
+// Block after block. The loop has more turns than a run uses up, since nothing says that an input ends.
+fn take_text(from: &mut Stream, room: &mut [u8], lines: &mut [u32]) -> Job
     requires { length lines.old ≡ length room.old }
     ensures { (result.count ≤ length room.old) × (result.known ≤ result.count) }
 {
     let mut block = block_buffer();
     let mut r = job_text::start();
-    let mut turns = u64::MAX;
-    while 0 < turns {
-        let got = io_edge::read_full(fd, &mut block);
+    for _ in 0..u64::MAX {
+        let got = io_edge::read_full(from, &mut block);
         if got.failed {
-            return job_of(0, UNREAD);
+            return unread(got.why);
         }
         r = job_text::read(r, &block[..got.count], room, lines);
         if got.count < BLOCK_SIZE {
             return ended(r.count, job_text::finish(r));
         }
-        turns -= 1;
     }
-    job_of(0, UNREAD)
+    unread(None)
 }
 
-fn take_bytes(fd: i32, room: &mut [u8]) -> Job
+fn take_bytes(from: &mut Stream, room: &mut [u8]) -> Job
     ensures { (result.count ≤ length room.old) × (result.known ≤ result.count) }
 {
-    let got = io_edge::read_full(fd, room);
+    let got = io_edge::read_full(from, room);
     if got.failed {
-        return job_of(0, UNREAD);
+        return unread(got.why);
     }
-    job_of(got.count, FINE)
+    job_of(got.count)
 }
 
 // A job into the front of the room, as far as that goes; of a text also each byte's line.
-pub fn take(fd: i32, is_text: bool, room: &mut [u8], lines: &mut [u32]) -> Job
+pub fn take(from: &mut Stream, is_text: bool, room: &mut [u8], lines: &mut [u32]) -> Job
     requires { length lines.old ≡ length room.old }
     ensures { IsPrefixLen result.count room.new × IsPrefixLen result.known lines.new }
 {
     if is_text {
-        return take_text(fd, room, lines);
+        return take_text(from, room, lines);
     }
-    take_bytes(fd, room)
+    take_bytes(from, room)
 }
 
 // Where the order begins behind the chip record.
@@ -179,46 +196,58 @@ fn message_buffer() -> [u8; 4864]
 }
 
 // A refusal, in one line on standard error: the label, the number, and what it means for this job.
-fn say_why(label: &[u8], number: u8, chip_size: usize, why: Why, line: u32) {
+fn say_why(rt: HostRuntime, label: &[u8], number: u8, chip_size: usize, why: Why, line: u32) {
     let mut text = message_buffer();
     let labelled = print_forms::put_text(&mut text, 0, label);
     let worded = reason_words::put_refusal(&mut text, labelled, number, chip_size, why, line);
     let end = print_forms::put_text(&mut text, worded, b"\n");
-    io_edge::say(&text[..end], b"");
+    io_edge::say(rt, &text[..end], b"");
 }
 
 // A job that is refused, which is said. `lines` are those of its bytes, none where it is no text. Why its order is
 // not complete.
-pub fn say_refused(label: &[u8], number: u8, job: &[u8], lines: &[u32]) -> Why {
+pub fn say_refused(rt: HostRuntime, label: &[u8], number: u8, job: &[u8], lines: &[u32]) -> Why {
     let end = chip_end(job);
     let why = why_of(number, &job[..end], &job[end..]);
-    say_why(label, number, end, why, stop_line(lines, why));
+    say_why(rt, label, number, end, why, stop_line(lines, why));
     why
 }
 
 // A job that could not be read, in one line on standard error: the system's reason, or where its text is wrong.
-pub fn say_unread(label: &[u8], job: Job) {
+pub fn say_unread(rt: HostRuntime, label: &[u8], job: Job) {
     if job.fault == UNREAD {
-        os::fail(label);
+        io_edge::say_failed(rt, label, job.why);
         return;
     }
-    io_edge::say_fault(label, job.fault == HALF, job.line, job.column);
+    io_edge::say_fault(rt, label, job.fault == HALF, job.line, job.column);
 }
 
-// A job from the file of this name, which is text where the name ends so. What is wrong is said.
-pub fn take_named(label: &[u8], name: &[u8], room: &mut [u8], lines: &mut [u32]) -> Job
+// A job from a file that was opened, or not.
+fn take_opened(opened: io::Result<Stream>, is_text: bool, room: &mut [u8], lines: &mut [u32]) -> Job
     requires { length lines.old ≡ length room.old }
     ensures { IsPrefixLen result.count room.new × IsPrefixLen result.known lines.new }
 {
-    let fd = os::open_read(name);
-    if fd < 0 {
-        os::fail(label);
-        return job_of(0, UNREAD);
+    match opened {
+        Ok(mut from) => take(&mut from, is_text, room, lines),
+        Err(e) => unread(Some(e)),
     }
-    let job = take(fd, io_edge::is_text_name(name), room, lines);
+}
+
+// A job from the file of this name, which is text where the name ends so. What is wrong is said.
+pub fn take_named(
+    rt: HostRuntime,
+    label: &[u8],
+    name: &[u8],
+    room: &mut [u8],
+    lines: &mut [u32],
+) -> Job
+    requires { length lines.old ≡ length room.old }
+    ensures { IsPrefixLen result.count room.new × IsPrefixLen result.known lines.new }
+{
+    let opened = io_edge::open_stream(rt, name);
+    let job = take_opened(opened, io_edge::is_text_name(name), room, lines);
     if job.fault != FINE {
-        say_unread(label, job);
+        say_unread(rt, label, job);
     }
-    libc::close(fd);
     job
 }

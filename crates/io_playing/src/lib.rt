@@ -7,6 +7,7 @@ ghost use Rattle.lists.specs.Bytes.{zeros};
 ghost use Rattle.model.specs.Stored.{area_size};
 ghost use Rattle.theorem_sound.specs.Keeps.{Good};
 
+use io_edge::Stream;
 use io_remarks::Noted;
 use model::Card;
 use register_entries::Entered;
@@ -39,42 +40,42 @@ fn line_buffer() -> [u8; 32760]
 }
 
 // Whether a chip record was read and passes. What is wrong with it is said.
-fn status_at(label: &[u8], chip: &[u8], failed: bool, number: u8) -> u8 {
+fn status_at(rt: HostRuntime, label: &[u8], chip: &[u8], failed: bool, number: u8) -> u8 {
     if failed {
         return io_edge::NOT_DONE;
     }
     if number != 0 {
-        io_remarks::note_chip(label, chip);
+        io_remarks::note_chip(rt, label, chip);
         return io_edge::REFUSED;
     }
     io_edge::DONE
 }
 
 // The fresh card of a session, and the status, which is other than DONE where there is no session to play.
-#[derive(Drop)]
+#[derive(Clone, Copy)]
 pub struct Begun {
     pub card: Card,
     pub status: u8,
 }
 
-pub fn begin(label: &[u8], fd: i32) -> Begun
+pub fn begin(rt: HostRuntime, label: &[u8], from: &mut Stream) -> Begun
     ensures { Good area_size result.card (zeros area_size) }
 {
     let mut chip = [0u8; 40];
-    let got = io_edge::read_labelled(label, fd, &mut chip);
+    let got = io_edge::read_labelled(rt, label, from, &mut chip);
     let n = got.count;
     let made = card_fresh::fresh(&chip[..n]);
     let card = made.card;
     Begun {
         card: card,
-        status: status_at(label, &chip[..n], got.failed, made.number),
+        status: status_at(rt, label, &chip[..n], got.failed, made.number),
     }
 }
 
 // How far a session is played: the card, the number of events by its last five digits, what was noted of them, how
 // many bytes of lines are gathered, and how many of the session are behind the last whole record; whether to go on,
 // and whether a read or a write failed, which was said.
-#[derive(Drop)]
+#[derive(Clone, Copy)]
 struct Stand {
     pub card: Card,
     pub count: u64,
@@ -86,7 +87,7 @@ struct Stand {
 }
 
 // What was noted so far, how much is gathered, and whether all lines went out that were to.
-#[derive(Drop)]
+#[derive(Clone, Copy)]
 struct Report {
     pub noted: Noted,
     pub gathered: usize,
@@ -97,6 +98,7 @@ struct Report {
 // last block, and where another block's might not fit; not at all where `output`, the label of standard output, is
 // empty.
 fn reported(
+    rt: HostRuntime,
     label: &[u8],
     output: &[u8],
     records: &[u8],
@@ -107,7 +109,7 @@ fn reported(
     requires { (at + length records.now / 260 * 26 ≤ length lines.now) × (length lines.now ≡ 32760) }
     ensures { result.gathered + 3276 ≤ 32760 }
 {
-    let noted = io_remarks::note_all(label, records, &lines[at..], before);
+    let noted = io_remarks::note_all(rt, label, records, &lines[at..], before);
     if output.len() == 0 {
         return Report {
             noted: noted,
@@ -128,7 +130,7 @@ fn reported(
     Report {
         noted: noted,
         gathered: 0,
-        good: io_edge::print(output, &lines[..end]),
+        good: io_edge::print(rt, output, &lines[..end]),
     }
 }
 
@@ -150,11 +152,12 @@ fn enter_at(
 
 // The whole records of the next block. A torn last record is not an event.
 fn play_block(
+    rt: HostRuntime,
     s: Stand,
     area: &mut [u8],
     block: &mut [u8],
     lines: &mut [u8],
-    fd: i32,
+    from: &mut Stream,
     label: &[u8],
     output: &[u8],
 ) -> Stand
@@ -164,7 +167,7 @@ fn play_block(
 {
     let card = s.card;
     let noted = s.noted;
-    let got = io_edge::read_labelled(label, fd, block);
+    let got = io_edge::read_labelled(rt, label, from, block);
     if got.failed {
         return Stand {
             card: card,
@@ -179,7 +182,7 @@ fn play_block(
     let records = &block[..got.count];
     let at = s.gathered;
     let last = enter_at(card, area, records, s.count, lines, at);
-    let report = reported(label, output, records, lines, at, noted);
+    let report = reported(rt, label, output, records, lines, at, noted);
     let after = last.card;
     let so_far = report.noted;
     Stand {
@@ -193,9 +196,15 @@ fn play_block(
     }
 }
 
-// Block after block. The loop counts its turns down from a number that no run uses up, since nothing says that an
-// input ends.
-fn play_all(c: Card, area: &mut [u8], fd: i32, label: &[u8], output: &[u8]) -> Stand
+// Block after block. The loop has more turns than a run uses up, since nothing says that an input ends.
+fn play_all(
+    rt: HostRuntime,
+    c: Card,
+    area: &mut [u8],
+    from: &mut Stream,
+    label: &[u8],
+    output: &[u8],
+) -> Stand
     requires { Good area_size c area.old }
     ensures { Good area_size result.card area.new }
 {
@@ -214,20 +223,18 @@ fn play_all(c: Card, area: &mut [u8], fd: i32, label: &[u8], output: &[u8]) -> S
         going: true,
         failed: false,
     };
-    let mut turns = u64::MAX;
-    while 0 < turns {
-        s = play_block(s, area, &mut block, &mut lines, fd, label, output);
+    for _ in 0..u64::MAX {
+        s = play_block(rt, s, area, &mut block, &mut lines, from, label, output);
         if !s.going {
             return s;
         }
-        turns -= 1;
     }
     s
 }
 
 // How playing a session ended: the card, how many events there were, and their number by its last five digits;
 // whether it came to its end, and the status.
-#[derive(Drop)]
+#[derive(Clone, Copy)]
 pub struct Outcome {
     pub card: Card,
     pub events: u64,
@@ -237,14 +244,14 @@ pub struct Outcome {
 }
 
 // The session's end is told, where it was reached.
-fn status_after(label: &[u8], noted: Noted, left: usize, ended: bool) -> u8 {
+fn status_after(rt: HostRuntime, label: &[u8], noted: Noted, left: usize, ended: bool) -> u8 {
     if ended {
-        return io_edge::status_of(io_remarks::note_end(label, noted, left));
+        return io_edge::status_of(io_remarks::note_end(rt, label, noted, left));
     }
     io_edge::NOT_DONE
 }
 
-fn outcome_of(label: &[u8], s: Stand) -> Outcome
+fn outcome_of(rt: HostRuntime, label: &[u8], s: Stand) -> Outcome
     ensures { result.card ≡ s.card }
 {
     let card = s.card;
@@ -255,17 +262,23 @@ fn outcome_of(label: &[u8], s: Stand) -> Outcome
         events: noted.events,
         count: s.count,
         ended: ended,
-        status: status_after(label, noted, s.left, ended),
+        status: status_after(rt, label, noted, s.left, ended),
     }
 }
 
 // Plays a session in a clear area. Its lines are printed as they come, unless `output`, the label of standard output,
 // is empty.
-pub fn play(label: &[u8], fd: i32, area: &mut [u8], output: &[u8]) -> Outcome
+pub fn play(
+    rt: HostRuntime,
+    label: &[u8],
+    from: &mut Stream,
+    area: &mut [u8],
+    output: &[u8],
+) -> Outcome
     requires { area.old ≡ zeros area_size }
     ensures { Good area_size result.card area.new }
 {
-    let begun = begin(label, fd);
+    let begun = begin(rt, label, from);
     let card = begun.card;
     if begun.status != io_edge::DONE {
         return Outcome {
@@ -276,7 +289,7 @@ pub fn play(label: &[u8], fd: i32, area: &mut [u8], output: &[u8]) -> Outcome
             status: begun.status,
         };
     }
-    outcome_of(label, play_all(card, area, fd, label, output))
+    outcome_of(rt, label, play_all(rt, card, area, from, label, output))
 }
 
 // A byte of the area times its place, counted from 1.

@@ -1,5 +1,5 @@
 -- What a job's session leaves in the room.
-use Rattle.std.specs.Prelude.{ℕ, ◌-◌, ◌≡◌, Bool, cond, List, [], ◌++◌, eqb, length}
+use Rattle.std.specs.Prelude.{ℕ, ◌-◌, ◌≡◌, cond, List, [], ◌++◌, eqb, length}
 use Rattle.lists.specs.Over.{overwrite}
 use Rattle.model.specs.declared.Written.{Written}
 use Rattle.model.specs.Stored.{chip_size}

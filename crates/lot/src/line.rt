@@ -7,7 +7,7 @@ use reason_why::Why;
 
 // How a job ended: entered; its register stood and was whole; refused by a number; not done, where a text's fault has
 // a place.
-#[derive(Drop)]
+#[derive(Clone, Copy)]
 pub enum Ending {
     Entered {
         gp: u8,

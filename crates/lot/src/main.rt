@@ -10,13 +10,15 @@ mod paths;
 ghost use Rattle.std.specs.Prelude.{◌≡◌, ◌≤◌, length};
 
 use job_register::Entry;
-use libc::ENOENT;
 use line::{Ending, put_line};
 use model::{END_SIZE, LINE_SIZE};
 use names::{Name, in_window, next_name, none};
 use options::{Options, read_options};
 use paths::put_path;
 use reason_why::Why;
+use std::fs::File;
+use std::io;
+use std::io::ErrorKind;
 
 const ZERO_BYTE: u8 = 0x00;
 
@@ -66,14 +68,16 @@ fn folder_buffer() -> [u8; 1024]
 }
 
 // The events of a register that stands and is whole, else 0.
-fn events_at(path: &[u8]) -> usize {
-    let fd = os::open_read(path);
-    if fd < 0 {
-        return 0;
+fn events_at(rt: HostRuntime, path: &[u8]) -> usize {
+    match io_edge::open_read(rt, path) {
+        Ok(file) => events_of(file),
+        Err(_) => 0,
     }
+}
+
+fn events_of(mut file: File) -> usize {
     let mut register = register_buffer();
-    let got = io_edge::read_full(fd, &mut register);
-    libc::close(fd);
+    let got = io_edge::read_full(&mut file, &mut register);
     if got.failed {
         return 0;
     }
@@ -81,63 +85,68 @@ fn events_at(path: &[u8]) -> usize {
 }
 
 // An old register of a job that has none now: it would speak of another order. Whether there is none.
-fn removed(path: &[u8]) -> bool {
-    if os::unlink(path) == 0 {
-        return true;
+fn removed(rt: HostRuntime, path: &[u8]) -> bool {
+    match io_edge::remove(rt, path) {
+        Ok(()) => true,
+        Err(e) => {
+            if e.kind() == ErrorKind::NotFound {
+                return true;
+            }
+            io_edge::say_failed(rt, path, Some(e));
+            false
+        }
     }
-    if os::errno() == ENOENT {
-        return true;
-    }
-    os::fail(path);
+}
+
+// What failed at a path, and the part is not left half written.
+fn failed_at(rt: HostRuntime, path: &[u8], part: &[u8], why: io::Error) -> bool {
+    io_edge::say_failed(rt, path, Some(why));
+    let _ = io_edge::remove(rt, part);
     false
 }
 
-// What failed at a path, and the path's file is not left half written.
-fn failed_at(path: &[u8]) -> bool {
-    os::fail(path);
-    os::unlink(path);
-    false
+// A register into its part, which is closed then.
+fn put_part(mut part: File, register: &[u8]) -> io::Result<()> {
+    io_edge::write_whole(&mut part, register)
+}
+
+fn renamed(rt: HostRuntime, part: &[u8], path: &[u8]) -> bool {
+    match io_edge::rename(rt, part, path) {
+        Ok(()) => true,
+        Err(e) => failed_at(rt, path, part, e),
+    }
 }
 
 // A register, whole or not there: written beside, and renamed.
-fn written(part: &[u8], path: &[u8], register: &[u8]) -> bool {
-    let fd = os::open_overwrite(part);
-    if fd < 0 {
-        os::fail(part);
-        return false;
-    }
-    if io_edge::write_whole(fd, register) {
-        if libc::close(fd) == 0 {
-            if os::rename(part, path) == 0 {
-                return true;
-            }
-            os::fail(path);
-            os::unlink(part);
-            return false;
+fn written(rt: HostRuntime, part: &[u8], path: &[u8], register: &[u8]) -> bool {
+    match io_edge::open_overwrite(rt, part) {
+        Ok(file) => match put_part(file, register) {
+            Ok(()) => renamed(rt, part, path),
+            Err(e) => failed_at(rt, part, part, e),
+        },
+        Err(e) => {
+            io_edge::say_failed(rt, part, Some(e));
+            false
         }
-        return failed_at(part);
     }
-    let said = failed_at(part);
-    libc::close(fd);
-    said
 }
 
 // A register goes into its folder by way of a part.
-fn stored(name: &[u8], folder: &[u8], path: &[u8], register: &[u8]) -> bool {
+fn stored(rt: HostRuntime, name: &[u8], folder: &[u8], path: &[u8], register: &[u8]) -> bool {
     let mut part = path_buffer();
     let n = put_path(&mut part, folder, b"/.", name, b".register.part");
-    written(&part[..n], path, register)
+    written(rt, &part[..n], path, register)
 }
 
 // How a job was entered, and of one that is refused why its order is not complete.
-#[derive(Drop)]
+#[derive(Clone, Copy)]
 struct Made {
     pub entry: Entry,
     pub why: Why,
 }
 
 // A job's register; or its refusal, which is said.
-fn enter(label: &[u8], job: &[u8], lines: &[u32], out: &mut [u8]) -> Made
+fn enter(rt: HostRuntime, label: &[u8], job: &[u8], lines: &[u32], out: &mut [u8]) -> Made
     ensures { result.entry.events ≤ 47 }
 {
     let end = io_intake::chip_end(job);
@@ -152,7 +161,7 @@ fn enter(label: &[u8], job: &[u8], lines: &[u32], out: &mut [u8]) -> Made
     }
     Made {
         entry: entry,
-        why: io_intake::say_refused(label, entry.number, job, lines),
+        why: io_intake::say_refused(rt, label, entry.number, job, lines),
     }
 }
 
@@ -161,12 +170,19 @@ fn undone() -> Ending {
 }
 
 // A job that was entered: its register is stored. One that was not has none from now on.
-fn finish(name: &[u8], folder: &[u8], path: &[u8], out: &[u8], made: Made) -> Ending
+fn finish(
+    rt: HostRuntime,
+    name: &[u8],
+    folder: &[u8],
+    path: &[u8],
+    out: &[u8],
+    made: Made,
+) -> Ending
     requires { (length out.now ≡ 1232) × (made.entry.events ≤ 47) }
 {
     let entry = made.entry;
     if entry.number != 0 {
-        if removed(path) {
+        if removed(rt, path) {
             let why = made.why;
             return Ending::Refused {
                 number: entry.number,
@@ -176,15 +192,16 @@ fn finish(name: &[u8], folder: &[u8], path: &[u8], out: &[u8], made: Made) -> En
         return undone();
     }
     let size = entry.events * LINE_SIZE + END_SIZE;
-    if stored(name, folder, path, &out[..size]) {
+    if stored(rt, name, folder, path, &out[..size]) {
         return line::entered(entry);
     }
-    removed(path);
+    removed(rt, path);
     undone()
 }
 
 // A job that was read.
 fn read(
+    rt: HostRuntime,
     name: &[u8],
     folder: &[u8],
     path: &[u8],
@@ -193,26 +210,34 @@ fn read(
     lines: &[u32],
 ) -> Ending {
     let mut out = register_buffer();
-    let made = enter(label, job, lines, &mut out);
-    finish(name, folder, path, &out, made)
+    let made = enter(rt, label, job, lines, &mut out);
+    finish(rt, name, folder, path, &out, made)
 }
 
 // A job from its file, in lent room: the job's 8 KB and its lines' 33 KB are made once a lot.
-fn taken(name: &[u8], folder: &[u8], path: &[u8], job: &mut [u8], lines: &mut [u32]) -> Ending
+fn taken(
+    rt: HostRuntime,
+    name: &[u8],
+    folder: &[u8],
+    path: &[u8],
+    job: &mut [u8],
+    lines: &mut [u32],
+) -> Ending
     requires { length lines.old ≡ length job.old }
 {
     let mut label = io_edge::label_buffer();
     let program = print_forms::put_text(&mut label, 0, b"lot: ");
     let labelled = print_forms::put_text(&mut label, program, name);
-    let taken = io_intake::take_named(&label[..labelled], name, job, lines);
+    let taken = io_intake::take_named(rt, &label[..labelled], name, job, lines);
     if taken.fault != io_intake::FINE {
-        removed(path);
+        removed(rt, path);
         return Ending::Undone {
             row: taken.line,
             column: taken.column,
         };
     }
     read(
+        rt,
         name,
         folder,
         path,
@@ -223,22 +248,29 @@ fn taken(name: &[u8], folder: &[u8], path: &[u8], job: &mut [u8], lines: &mut [u
 }
 
 // One job, by its name.
-fn one(name: &[u8], folder: &[u8], resume: bool, job: &mut [u8], lines: &mut [u32]) -> Ending
+fn one(
+    rt: HostRuntime,
+    name: &[u8],
+    folder: &[u8],
+    resume: bool,
+    job: &mut [u8],
+    lines: &mut [u32],
+) -> Ending
     requires { length lines.old ≡ length job.old }
 {
     let mut path = path_buffer();
     let n = put_path(&mut path, folder, b"/", name, b".register");
     if resume {
-        let events = events_at(&path[..n]);
+        let events = events_at(rt, &path[..n]);
         if 0 < events {
             return Ending::Kept(events);
         }
     }
-    taken(name, folder, &path[..n], job, lines)
+    taken(rt, name, folder, &path[..n], job, lines)
 }
 
 // The jobs so far, by how they ended.
-#[derive(Drop)]
+#[derive(Clone, Copy)]
 struct Tally {
     pub loaded: u64,
     pub refused: u64,
@@ -286,7 +318,7 @@ fn sum(a: u64, b: u64) -> u64 {
 }
 
 // The last line: without it a reader must not take the lot for done.
-fn print_end(t: Tally) {
+fn print_end(rt: HostRuntime, t: Tally) {
     let mut line = [0u8; 128];
     let jobs = sum(sum(t.loaded, t.refused), t.undone);
     let end = print_forms::put_form(
@@ -295,11 +327,11 @@ fn print_end(t: Tally) {
         b"END\t#\t#\t#\t#\n",
         &[jobs, t.loaded, t.refused, t.undone],
     );
-    io_edge::print(b"lot: standard output", &line[..end]);
+    io_edge::print(rt, b"lot: standard output", &line[..end]);
 }
 
 // Where the lot stands: its counts, the number of the next name, and how many bytes of lines are gathered.
-#[derive(Drop)]
+#[derive(Clone, Copy)]
 struct Lot {
     pub tally: Tally,
     pub index: u64,
@@ -316,6 +348,7 @@ fn is_ours(o: Options, index: u64) -> bool {
 
 // One name more: passed over where it is empty or another part's.
 fn turn(
+    rt: HostRuntime,
     lot: Lot,
     o: Options,
     name: &[u8],
@@ -335,7 +368,7 @@ fn turn(
     if !is_ours(o, lot.index) {
         return next;
     }
-    let ending = one(name, folder, o.resume, job, lines);
+    let ending = one(rt, name, folder, o.resume, job, lines);
     let tally = lot.tally;
     next.tally = counted(tally, ending);
     next.gathered = put_line(out, lot.gathered, name, ending);
@@ -343,14 +376,14 @@ fn turn(
 }
 
 // How much is gathered, and whether all that was to go out did.
-#[derive(Drop)]
+#[derive(Clone, Copy)]
 struct Sent {
     pub gathered: usize,
     pub good: bool,
 }
 
 // What is gathered goes out where names are waited for, and where another line might not fit.
-fn pass_on(out: &[u8], gathered: usize, waits: bool) -> Sent
+fn pass_on(rt: HostRuntime, out: &[u8], gathered: usize, waits: bool) -> Sent
     requires { gathered ≤ length out.now }
     ensures { result.gathered ≤ gathered }
 {
@@ -362,18 +395,19 @@ fn pass_on(out: &[u8], gathered: usize, waits: bool) -> Sent
     }
     Sent {
         gathered: 0,
-        good: io_edge::print(b"lot: standard output", &out[..gathered]),
+        good: io_edge::print(rt, b"lot: standard output", &out[..gathered]),
     }
 }
 
 // The next name, and how much is gathered then.
-#[derive(Drop)]
+#[derive(Clone, Copy)]
 struct Next {
     pub name: Name,
     pub gathered: usize,
 }
 
 fn next_of(
+    rt: HostRuntime,
     window: &mut [u8],
     at: usize,
     filled: usize,
@@ -387,7 +421,7 @@ fn next_of(
         × (result.gathered ≤ gathered) }
 {
     let held = in_window(window, at, filled, separator);
-    let sent = pass_on(out, gathered, held.state == names::NONE);
+    let sent = pass_on(rt, out, gathered, held.state == names::NONE);
     if !sent.good {
         let failed = none(names::FAILED);
         return Next {
@@ -395,7 +429,7 @@ fn next_of(
             gathered: 0,
         };
     }
-    let name = next_name(held, window, at, filled, separator);
+    let name = next_name(rt, held, window, at, filled, separator);
     Next {
         name: name,
         gathered: sent.gathered,
@@ -424,9 +458,9 @@ fn new_lot() -> Lot
     }
 }
 
-// Name after name; what is gathered goes out before more names are waited for. The loop counts its turns down from a
-// number that no run uses up, since nothing says that an input ends.
-fn run(o: Options, folder: &[u8]) {
+// Name after name; what is gathered goes out before more names are waited for. The loop has more turns than a run
+// uses up, since nothing says that an input ends.
+fn run(rt: HostRuntime, o: Options, folder: &[u8]) {
     let mut window = window_buffer();
     let mut job = io_intake::job_buffer();
     let mut lines = io_intake::line_buffer();
@@ -435,21 +469,21 @@ fn run(o: Options, folder: &[u8]) {
     let mut lot = new_lot();
     let mut at: usize = 0;
     let mut filled: usize = 0;
-    let mut turns = u64::MAX;
-    while 0 < turns {
-        let next = next_of(&mut window, at, filled, separator, &out, lot.gathered);
+    for _ in 0..u64::MAX {
+        let next = next_of(rt, &mut window, at, filled, separator, &out, lot.gathered);
         let name = next.name;
         lot.gathered = next.gathered;
         if name.state == names::FAILED {
             return;
         }
         if name.state == names::ENDED {
-            print_end(lot.tally);
+            print_end(rt, lot.tally);
             return;
         }
         let start = name.start;
         let end = name.end;
         lot = turn(
+            rt,
             lot,
             o,
             &window[start..end],
@@ -460,28 +494,28 @@ fn run(o: Options, folder: &[u8]) {
         );
         at = name.next;
         filled = name.filled;
-        turns -= 1;
     }
 }
 
-fn say_usage() {
+fn say_usage(rt: HostRuntime) {
     io_edge::say(
+        rt,
         b"lot: ",
         b"usage: lot [-0] [--resume] [--part K/N] OUT, a name of at most 1,024 bytes\n",
     );
 }
 
-fn main() {
-    let o = read_options();
+fn main(rt: HostRuntime) {
+    let o = read_options(rt);
     let mut folder = folder_buffer();
-    let n = os::arg(o.folder, &mut folder);
+    let n = io_edge::argument(rt, o.folder, &mut folder);
     if n == 0 {
-        say_usage();
+        say_usage(rt);
         return;
     }
     if o.parts == 0 {
-        say_usage();
+        say_usage(rt);
         return;
     }
-    run(o, &folder[..n]);
+    run(rt, o, &folder[..n]);
 }

@@ -12,7 +12,7 @@ pub const FAILED: u8 = 2;
 pub const NONE: u8 = 3;
 
 // A name from `start` to `end` of the window; the next one begins at `next`, and the window is filled up to `filled`.
-#[derive(Drop)]
+#[derive(Clone, Copy)]
 pub struct Name {
     pub state: u8,
     pub start: usize,
@@ -76,12 +76,17 @@ pub fn none(state: u8) -> Name
 }
 
 // A name that no separator ended: the window is filled behind it, and it is looked for again.
-fn refilled(window: &mut [u8], kept: usize, separator: u8) -> Name
+fn refilled(rt: HostRuntime, window: &mut [u8], kept: usize, separator: u8) -> Name
     requires { kept ≤ length window.old }
     ensures { (result.start ≤ result.end) × (result.end ≤ result.filled) × (result.next ≤ result.filled)
         × (result.filled ≤ length window.old) }
 {
-    let got = io_edge::read_labelled(b"lot: standard input", 0, &mut window[kept..]);
+    let got = io_edge::read_labelled(
+        rt,
+        b"lot: standard input",
+        &mut rt.stdin(),
+        &mut window[kept..],
+    );
     if got.failed {
         return none(FAILED);
     }
@@ -91,7 +96,7 @@ fn refilled(window: &mut [u8], kept: usize, separator: u8) -> Name
         return found(0, end, end + 1, filled);
     }
     if filled == window.len() {
-        io_edge::say(b"lot: standard input", b": a name is too long\n");
+        io_edge::say(rt, b"lot: standard input", b": a name is too long\n");
         return none(FAILED);
     }
     if filled == 0 {
@@ -114,7 +119,14 @@ pub fn in_window(window: &[u8], at: usize, filled: usize, separator: u8) -> Name
 }
 
 // The next name: the one that was found, else one that is read on for.
-pub fn next_name(held: Name, window: &mut [u8], at: usize, filled: usize, separator: u8) -> Name
+pub fn next_name(
+    rt: HostRuntime,
+    held: Name,
+    window: &mut [u8],
+    at: usize,
+    filled: usize,
+    separator: u8,
+) -> Name
     requires { (at ≤ filled) × (filled ≤ length window.old) × (held.start ≤ held.end)
         × (held.end ≤ held.filled) × (held.next ≤ held.filled) × (held.filled ≤ length window.old) }
     ensures { (result.start ≤ result.end) × (result.end ≤ result.filled) × (result.next ≤ result.filled)
@@ -124,5 +136,5 @@ pub fn next_name(held: Name, window: &mut [u8], at: usize, filled: usize, separa
         return held;
     }
     let kept = keep(window, at, filled);
-    refilled(window, kept, separator)
+    refilled(rt, window, kept, separator)
 }

@@ -10,7 +10,7 @@ const DIGITS: usize = 6;
 
 // Names end in a zero byte; registers that are whole are left; only names whose number from 0 is `part` modulo
 // `parts`, which is 0 where that was not told right; and where the folder stands among the arguments.
-#[derive(Drop)]
+#[derive(Clone, Copy)]
 pub struct Options {
     pub zero: bool,
     pub resume: bool,
@@ -20,7 +20,7 @@ pub struct Options {
 }
 
 // A number and the place behind its digits.
-#[derive(Drop)]
+#[derive(Clone, Copy)]
 struct Number {
     pub value: u64,
     pub end: usize,
@@ -79,19 +79,19 @@ fn word_buffer() -> [u8; 16]
     [0; 16]
 }
 
-fn with_part(o: Options, i: usize) -> Options {
+fn with_part(rt: HostRuntime, o: Options, i: usize) -> Options {
     let mut word = word_buffer();
-    let n = os::arg(i, &mut word);
+    let n = io_edge::argument(rt, i, &mut word);
     part_of(o, &word[..n])
 }
 
 // The options, in this order, and the folder behind them.
-pub fn read_options() -> Options {
-    let zero = io_edge::is_arg(1, b"-0");
+pub fn read_options(rt: HostRuntime) -> Options {
+    let zero = io_edge::is_arg(rt, 1, b"-0");
     let second = io_edge::behind(1, zero);
-    let resume = io_edge::is_arg(second, b"--resume");
+    let resume = io_edge::is_arg(rt, second, b"--resume");
     let third = io_edge::behind(second, resume);
-    let parted = io_edge::is_arg(third, b"--part");
+    let parted = io_edge::is_arg(rt, third, b"--part");
     let fourth = io_edge::behind(third, parted);
     let o = Options {
         zero: zero,
@@ -101,7 +101,7 @@ pub fn read_options() -> Options {
         folder: io_edge::behind(fourth, parted),
     };
     if parted {
-        return with_part(o, fourth);
+        return with_part(rt, o, fourth);
     }
     o
 }

@@ -2,44 +2,46 @@
 // standard output, and what is refused is said on standard error.
 #![tactic(auto)]
 
+use io_edge::Stream;
 
 // Whether the last line went out.
-fn print_end(count: u64) -> bool {
+fn print_end(rt: HostRuntime, count: u64) -> bool {
     let mut end = [0u8; 10];
     register_lines::put_end(&mut end, 0, count);
-    io_edge::print(b"replay: standard output", &end)
+    io_edge::print(rt, b"replay: standard output", &end)
 }
 
 // The place sum of the file area, for the benchmark: so no compiler may leave out what is stored there.
-fn say_sum(sum: usize) {
-    io_edge::say_form(b"AREA ", b"@@\n", &[sum as u64 / 100_000, sum as u64]);
+fn say_sum(rt: HostRuntime, sum: usize) {
+    io_edge::say_form(rt, b"AREA ", b"@@\n", &[sum as u64 / 100_000, sum as u64]);
 }
 
-fn replay(fd: i32, label: &[u8], sums: bool) -> u8 {
+fn replay(rt: HostRuntime, from: &mut Stream, label: &[u8], sums: bool) -> u8 {
     let mut area = io_playing::clear_area();
-    let outcome = io_playing::play(label, fd, &mut area, b"replay: standard output");
+    let outcome = io_playing::play(rt, label, from, &mut area, b"replay: standard output");
     if outcome.status == io_edge::NOT_DONE {
         return io_edge::NOT_DONE;
     }
-    if print_end(outcome.count) {
+    if print_end(rt, outcome.count) {
         if sums {
-            say_sum(io_playing::place_sum(&area));
+            say_sum(rt, io_playing::place_sum(&area));
         }
         return outcome.status;
     }
     io_edge::NOT_DONE
 }
 
-fn main() {
+fn main(rt: HostRuntime) {
     let mut label = io_edge::label_buffer();
-    let tells = io_edge::is_arg(1, b"--tell");
+    let tells = io_edge::is_arg(rt, 1, b"--tell");
+    let listener = io_edge::listener(rt, tells);
     let i = io_edge::behind(1, tells);
-    let sums = io_edge::is_arg(i, b"--sum");
-    let source = io_edge::open_last(b"replay: ", io_edge::behind(i, sums), &mut label);
-    if source.fd < 0 {
-        io_edge::tell(tells, io_edge::NOT_DONE);
+    let sums = io_edge::is_arg(rt, i, b"--sum");
+    let mut source = io_edge::open_last(rt, b"replay: ", io_edge::behind(i, sums), &mut label);
+    if source.from.is_shut() {
+        io_edge::tell(listener, io_edge::NOT_DONE);
         return;
     }
-    let status = replay(source.fd, &label[..source.labelled], sums);
-    io_edge::tell(tells, status);
+    let status = replay(rt, &mut source.from, &label[..source.labelled], sums);
+    io_edge::tell(listener, status);
 }

@@ -2,6 +2,7 @@
 ghost use Rattle.std.specs.Prelude.{◌≤◌, ◌<◌};
 
 use crate::form::{write, write_form, write_hex};
+use io_edge::Page;
 use model::{Card, Life, Loading, Open, Secret};
 
 const NAME_LIMIT: usize = 16;
@@ -42,23 +43,23 @@ fn characters(name: [u8; 16]) -> [u8; 16] {
 }
 
 // The name as text, and in hexadecimal.
-fn write_name(good: &mut bool, name: [u8; 16], n: usize) {
+fn write_name(page: &mut Page, name: [u8; 16], n: usize) {
     let k = memory::least(n, NAME_LIMIT);
     if k == 0 {
-        write(good, b"Card\n  name            none");
+        write(page, b"Card\n  name            none");
         return;
     }
     let text = characters(name);
-    write(good, b"Card\n  name            ");
-    write(good, &text[..k]);
-    write_hex(good, b" '", &name[..k], b"'");
+    write(page, b"Card\n  name            ");
+    write(page, &text[..k]);
+    write_hex(page, b" '", &name[..k], b"'");
 }
 
 // The states, and how many events there were.
-fn write_states(good: &mut bool, life: Life, internal: u8, events: u64) {
+fn write_states(page: &mut Page, life: Life, internal: u8, events: u64) {
     let many = FIVE_DIGITS <= events;
     write_form(
-        good,
+        page,
         b"\n  life cycle      '$'{\x00 absent|\x03 installed|\x07 selectable|\x83 locked from installed|\
         \x87 locked from selectable|}%{\x00, not selected|\x01, selected|}\
         \n  internal state  '$'{\xCC NOT_PERSONALIZED, before loading|\x5A PERSONALIZING|\xA5 PERSONALIZED|}\
@@ -74,14 +75,14 @@ fn write_states(good: &mut bool, life: Life, internal: u8, events: u64) {
 }
 
 // Serial number and startup information, whose first byte is at least 6 once loaded.
-fn write_kept(good: &mut bool, l: Loading) {
+fn write_kept(page: &mut Page, l: Loading) {
     let startup = l.startup;
     let most = startup[0];
     let is_loaded = most != 0;
-    write_hex(good, b"\n  serial number   '", &l.serial, b"'");
-    write_hex(good, b"\n  startup         '", &startup, b"'");
+    write_hex(page, b"\n  serial number   '", &l.serial, b"'");
+    write_hex(page, b"\n  startup         '", &startup, b"'");
     write_form(
-        good,
+        page,
         b"%{\x00, not loaded|\x01, # modification~ in a session at most|}",
         &[is_loaded as u64, most as u64],
     );
@@ -120,10 +121,10 @@ fn gap_in(pending: Open) -> Gap {
 }
 
 // The counter, the open value, and how many rows are taken.
-fn write_progress(good: &mut bool, counter: u32, rows: u16, pending: Open) {
+fn write_progress(page: &mut Page, counter: u32, rows: u16, pending: Open) {
     let gap = gap_in(pending);
     write_form(
-        good,
+        page,
         b"\n  counter         #\n  open value      %{\x00none|\x01'&', # byte~ still missing|}",
         &[
             counter as u64,
@@ -132,13 +133,13 @@ fn write_progress(good: &mut bool, counter: u32, rows: u16, pending: Open) {
             gap.missing as u64,
         ],
     );
-    write_form(good, b"\n\nRows taken: #", &[row_sets::count(rows) as u64]);
+    write_form(page, b"\n\nRows taken: #", &[row_sets::count(rows) as u64]);
 }
 
 // What row r is, with the last tag of a record; of row 0 nothing.
-fn write_row(good: &mut bool, r: u8, last: u16) {
+fn write_row(page: &mut Page, r: u8, last: u16) {
     write_form(
-        good,
+        page,
         b"%{\x01\n  '9484' challenge|\x02\n  '2000' serial number|\x03\n  '2100' startup information|\
         \x04\n  '2200' transaction counter|\x05\n  '3100' file table|\x06\n  '3800' activation parameters|\
         \x07\n  '4101' Issuer key|\x08\n  '4102' Load key|\x09\n  '4103' Debit key|\x0A\n  '4104' PIN|\
@@ -157,53 +158,53 @@ fn if_taken(rows: u16, r: u8) -> u8
     0
 }
 
-fn write_rows(good: &mut bool, rows: u16, last: u16) {
+fn write_rows(page: &mut Page, rows: u16, last: u16) {
     let mut r: u8 = 0;
     while r < ROW_COUNT {
         r += 1;
-        write_row(good, if_taken(rows, r), last);
+        write_row(page, if_taken(rows, r), last);
     }
 }
 
 // A secret's length, and no byte of it.
-fn write_length(good: &mut bool, i: u8, n: usize)
+fn write_length(page: &mut Page, i: u8, n: usize)
     requires { i < 5 }
 {
     let is_there = n != 0;
-    write_row(good, FIRST_SECRET_ROW + i, 0);
+    write_row(page, FIRST_SECRET_ROW + i, 0);
     write_form(
-        good,
+        page,
         b": %{\x00none|\x01# byte~|}",
         &[is_there as u64, n as u64],
     );
 }
 
-fn write_lengths(good: &mut bool, secrets: [Secret; 5]) {
+fn write_lengths(page: &mut Page, secrets: [Secret; 5]) {
     let mut i: u8 = 0;
     while i < SECRETS {
         let s = secrets[i as usize];
-        write_length(good, i, s.len);
+        write_length(page, i, s.len);
         i += 1;
     }
 }
 
 // What is loaded but the files.
-fn write_loaded(good: &mut bool, l: Loading) {
+fn write_loaded(page: &mut Page, l: Loading) {
     let running = l.running;
     let pending = running.pending;
     let secrets = l.secrets;
-    write_kept(good, l);
-    write_progress(good, l.counter, running.rows, pending);
-    write_rows(good, running.rows, running.last);
-    write(good, b"\n\nSecrets, their lengths only");
-    write_lengths(good, secrets);
+    write_kept(page, l);
+    write_progress(page, l.counter, running.rows, pending);
+    write_rows(page, running.rows, running.last);
+    write(page, b"\n\nSecrets, their lengths only");
+    write_lengths(page, secrets);
 }
 
-pub fn write_facts(good: &mut bool, c: Card, events: u64) {
+pub fn write_facts(page: &mut Page, c: Card, events: u64) {
     let life = c.life;
     let name = life.name;
     let l = c.loading;
-    write_name(good, name, life.namelen);
-    write_states(good, life, l.running.internal, events);
-    write_loaded(good, l);
+    write_name(page, name, life.namelen);
+    write_states(page, life, l.running.internal, events);
+    write_loaded(page, l);
 }

@@ -8,32 +8,34 @@ mod form;
 
 use facts::write_facts;
 use files::write_table;
+use io_edge::Stream;
 
-fn show(fd: i32, label: &[u8]) -> u8 {
+fn show(rt: HostRuntime, from: &mut Stream, label: &[u8]) -> u8 {
     let mut area = io_playing::clear_area();
-    let outcome = io_playing::play(label, fd, &mut area, b"");
+    let outcome = io_playing::play(rt, label, from, &mut area, b"");
     if !outcome.ended {
         return outcome.status;
     }
     let played = outcome.card;
     let card = card_veiled::veiled(played);
-    let mut good = true;
-    write_facts(&mut good, card, outcome.events);
-    write_table(&mut good, card, &area);
-    if good {
+    let mut page = io_edge::new_page(rt);
+    write_facts(&mut page, card, outcome.events);
+    write_table(&mut page, card, &area);
+    if page.good {
         return outcome.status;
     }
     io_edge::NOT_DONE
 }
 
-fn main() {
+fn main(rt: HostRuntime) {
     let mut label = io_edge::label_buffer();
-    let tells = io_edge::is_arg(1, b"--tell");
-    let source = io_edge::open_last(b"show: ", io_edge::behind(1, tells), &mut label);
-    if source.fd < 0 {
-        io_edge::tell(tells, io_edge::NOT_DONE);
+    let tells = io_edge::is_arg(rt, 1, b"--tell");
+    let listener = io_edge::listener(rt, tells);
+    let mut source = io_edge::open_last(rt, b"show: ", io_edge::behind(1, tells), &mut label);
+    if source.from.is_shut() {
+        io_edge::tell(listener, io_edge::NOT_DONE);
         return;
     }
-    let status = show(source.fd, &label[..source.labelled]);
-    io_edge::tell(tells, status);
+    let status = show(rt, &mut source.from, &label[..source.labelled]);
+    io_edge::tell(listener, status);
 }

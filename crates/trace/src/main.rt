@@ -8,6 +8,7 @@ ghost use Rattle.lists.specs.Bytes.{zeros};
 ghost use Rattle.model.specs.Stored.{area_size};
 ghost use Rattle.theorem_sound.specs.Keeps.{Good};
 
+use io_edge::Stream;
 use io_remarks::Noted;
 use model::{
     Card, DESCRIPTOR_SIZE, Descriptor, Life, Loading, Open, Played, RECORD_SIZE, Secret,
@@ -119,7 +120,7 @@ fn put_table(out: &mut [u8], at: usize, files: [Descriptor; 31], count: usize) -
 }
 
 // An open value: its tag, how many bytes are there and how many are missing; and how many of '3100' are held.
-#[derive(Drop)]
+#[derive(Clone, Copy)]
 struct Span {
     pub is_open: bool,
     pub tag: u16,
@@ -227,7 +228,7 @@ fn put_line(out: &mut [u8], at: usize, p: Played, answer: &[u8], area: &[u8]) ->
 }
 
 // The card after a record, the place behind its line, and whether it was refused.
-#[derive(Drop)]
+#[derive(Clone, Copy)]
 struct Traced {
     pub card: Card,
     pub end: usize,
@@ -250,7 +251,7 @@ fn trace_one(c: Card, area: &mut [u8], r: &[u8], out: &mut [u8], at: usize) -> T
 }
 
 // The card after some records, what was noted of the session so far, and the place behind their lines.
-#[derive(Drop)]
+#[derive(Clone, Copy)]
 struct Lines {
     pub card: Card,
     pub noted: Noted,
@@ -259,6 +260,7 @@ struct Lines {
 
 // Plays the whole records of a block, a line each. A torn last record is not an event.
 fn trace_all(
+    rt: HostRuntime,
     mut c: Card,
     area: &mut [u8],
     records: &[u8],
@@ -278,7 +280,7 @@ fn trace_all(
         let t = trace_one(c, area, r, out, end);
         c = t.card;
         end = t.end;
-        noted = io_remarks::note(label, r, t.refused, noted);
+        noted = io_remarks::note(rt, label, r, t.refused, noted);
         i += 1;
     }
     Lines {
@@ -290,7 +292,7 @@ fn trace_all(
 
 // How far a session is traced: the card, what was noted; how many bytes are behind the last whole record; whether to
 // go on, and whether a read or a write failed, which was said.
-#[derive(Drop)]
+#[derive(Clone, Copy)]
 struct Stand {
     pub card: Card,
     pub noted: Noted,
@@ -306,15 +308,15 @@ fn line_buffer() -> [u8; 62400]
 }
 
 // Records that were read.
-fn trace_records(s: Stand, area: &mut [u8], records: &[u8], label: &[u8]) -> Stand
+fn trace_records(rt: HostRuntime, s: Stand, area: &mut [u8], records: &[u8], label: &[u8]) -> Stand
     requires { Good area_size s.card area.old × (length records.now ≤ 6240) }
     ensures { Good area_size result.card area.new }
 {
     let before = s.card;
     let noted = s.noted;
     let mut out = line_buffer();
-    let lines = trace_all(before, area, records, label, noted, &mut out);
-    let printed = io_edge::print(b"trace: standard output", &out[..lines.end]);
+    let lines = trace_all(rt, before, area, records, label, noted, &mut out);
+    let printed = io_edge::print(rt, b"trace: standard output", &out[..lines.end]);
     let card = lines.card;
     let so_far = lines.noted;
     Stand {
@@ -333,12 +335,12 @@ fn block_buffer() -> [u8; 6240]
 }
 
 // The next block.
-fn trace_block(s: Stand, area: &mut [u8], fd: i32, label: &[u8]) -> Stand
+fn trace_block(rt: HostRuntime, s: Stand, area: &mut [u8], from: &mut Stream, label: &[u8]) -> Stand
     requires { Good area_size s.card area.old }
     ensures { Good area_size result.card area.new }
 {
     let mut block = block_buffer();
-    let got = io_edge::read_labelled(label, fd, &mut block);
+    let got = io_edge::read_labelled(rt, label, from, &mut block);
     if got.failed {
         let card = s.card;
         let noted = s.noted;
@@ -350,21 +352,21 @@ fn trace_block(s: Stand, area: &mut [u8], fd: i32, label: &[u8]) -> Stand
             failed: true,
         };
     }
-    trace_records(s, area, &block[..got.count], label)
+    trace_records(rt, s, area, &block[..got.count], label)
 }
 
 // The session's end.
-fn status_after(label: &[u8], s: Stand) -> u8 {
+fn status_after(rt: HostRuntime, label: &[u8], s: Stand) -> u8 {
     if s.going || s.failed {
         return io_edge::NOT_DONE;
     }
     let noted = s.noted;
-    io_edge::status_of(io_remarks::note_end(label, noted, s.left))
+    io_edge::status_of(io_remarks::note_end(rt, label, noted, s.left))
 }
 
-// Block after block to the end of the input. The loop counts its turns down from a number that no run uses up, since
-// nothing says that an input ends.
-fn trace_blocks(c: Card, area: &mut [u8], fd: i32, label: &[u8]) -> u8
+// Block after block to the end of the input. The loop has more turns than a run uses up, since nothing says that an
+// input ends.
+fn trace_blocks(rt: HostRuntime, c: Card, area: &mut [u8], from: &mut Stream, label: &[u8]) -> u8
     requires { Good area_size c area.old }
 {
     let noted = Noted {
@@ -378,13 +380,11 @@ fn trace_blocks(c: Card, area: &mut [u8], fd: i32, label: &[u8]) -> u8
         going: true,
         failed: false,
     };
-    let mut turns = u64::MAX;
-    while 0 < turns {
-        s = trace_block(s, area, fd, label);
+    for _ in 0..u64::MAX {
+        s = trace_block(rt, s, area, from, label);
         if !s.going {
-            return status_after(label, s);
+            return status_after(rt, label, s);
         }
-        turns -= 1;
     }
     io_edge::NOT_DONE
 }
@@ -396,50 +396,51 @@ fn area_buffer() -> [u8; 8220]
 }
 
 // The last line: AREA and its bytes. The status then.
-fn print_area(area: &[u8], status: u8) -> u8 {
+fn print_area(rt: HostRuntime, area: &[u8], status: u8) -> u8 {
     let mut line = area_buffer();
     let named = print_forms::put_text(&mut line, 0, b"AREA ");
     let shown = print_forms::put_hex(&mut line, named, area);
     let end = print_forms::put_text(&mut line, shown, b"\n");
-    if io_edge::print(b"trace: standard output", &line[..end]) {
+    if io_edge::print(rt, b"trace: standard output", &line[..end]) {
         return status;
     }
     io_edge::NOT_DONE
 }
 
 // The events of the card that the chip record gives, and the area after them.
-fn trace_card(c: Card, fd: i32, label: &[u8]) -> u8
+fn trace_card(rt: HostRuntime, c: Card, from: &mut Stream, label: &[u8]) -> u8
     requires { Good area_size c (zeros area_size) }
 {
     let mut area = io_playing::clear_area();
-    let status = trace_blocks(c, &mut area, fd, label);
+    let status = trace_blocks(rt, c, &mut area, from, label);
     if status == io_edge::NOT_DONE {
         return status;
     }
-    print_area(&area, status)
+    print_area(rt, &area, status)
 }
 
-fn trace(fd: i32, label: &[u8]) -> u8 {
-    let begun = io_playing::begin(label, fd);
+fn trace(rt: HostRuntime, from: &mut Stream, label: &[u8]) -> u8 {
+    let begun = io_playing::begin(rt, label, from);
     if begun.status == io_edge::DONE {
-        return trace_card(begun.card, fd, label);
+        return trace_card(rt, begun.card, from, label);
     }
     if begun.status == io_edge::REFUSED {
-        if io_edge::print(b"trace: standard output", b"REFUSED 07\n") {
+        if io_edge::print(rt, b"trace: standard output", b"REFUSED 07\n") {
             return io_edge::REFUSED;
         }
     }
     io_edge::NOT_DONE
 }
 
-fn main() {
+fn main(rt: HostRuntime) {
     let mut label = io_edge::label_buffer();
-    let tells = io_edge::is_arg(1, b"--tell");
-    let source = io_edge::open_last(b"trace: ", io_edge::behind(1, tells), &mut label);
-    if source.fd < 0 {
-        io_edge::tell(tells, io_edge::NOT_DONE);
+    let tells = io_edge::is_arg(rt, 1, b"--tell");
+    let listener = io_edge::listener(rt, tells);
+    let mut source = io_edge::open_last(rt, b"trace: ", io_edge::behind(1, tells), &mut label);
+    if source.from.is_shut() {
+        io_edge::tell(listener, io_edge::NOT_DONE);
         return;
     }
-    let status = trace(source.fd, &label[..source.labelled]);
-    io_edge::tell(tells, status);
+    let status = trace(rt, &mut source.from, &label[..source.labelled]);
+    io_edge::tell(listener, status);
 }

@@ -4,15 +4,11 @@ use native.Mathlib.Omega.{arith}
 use borrow.Author.Rules.{rules}
 use Rattle.theorem_cutting.specs.Job.{select_event, select_record}
 use Rattle.job_session.proofs.Laid.{record_laid}
-use Rattle.job_session.proofs.select_record.Statement.{statement}
-use Rattle.job_session.proofs.select_record.Tie as tie
+use Rattle.job_session.proofs.select_record.Goals as goal
 
-returns : tie.Need-returns
+pub returns : goal.returns
 unfolding select_record
 returns c = (
-  c.before.lay.ensures ∙ record_laid select_event (omega arith),
+  c.lay.ensures ∙ record_laid select_event (omega arith),
   search rules,
 )
-
-pub select_record_spec : {M : Type 1} → statement M
-select_record_spec = tie.close (tie.spec (search rules) (search rules) (search rules) returns)

@@ -4,15 +4,11 @@ use native.Mathlib.Omega.{arith}
 use borrow.Author.Rules.{rules}
 use Rattle.theorem_cutting.specs.Job.{install_event, install_record}
 use Rattle.job_session.proofs.Laid.{record_laid}
-use Rattle.job_session.proofs.install_record.Statement.{statement}
-use Rattle.job_session.proofs.install_record.Tie as tie
+use Rattle.job_session.proofs.install_record.Goals as goal
 
-returns : tie.Need-returns
+pub returns : goal.returns
 unfolding install_record
 returns c = (
-  c.before.lay.ensures ∙ record_laid install_event (omega arith),
+  c.lay.ensures ∙ record_laid install_event (omega arith),
   search rules,
 )
-
-pub install_record_spec : {M : Type 1} → statement M
-install_record_spec = tie.close (tie.spec (search rules) (search rules) (search rules) returns)

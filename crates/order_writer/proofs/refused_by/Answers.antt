@@ -2,12 +2,8 @@
 use mathlib.Core.Path.{refl, sym}
 use Rattle.lists.specs.Joined.{joined}
 use Rattle.lists.specs.Over.{over_none}
-use Rattle.order_writer.proofs.refused_by.Statement.{statement}
-use Rattle.order_writer.proofs.refused_by.Tie as tie
+use Rattle.order_writer.proofs.refused_by.Goals as goal
 
-returns : tie.Need-returns
+pub returns : goal.returns
 unfolding joined
 returns c = λ room. record { number = refl; count = refl; room = sym (over_none room 0) }
-
-pub refused_by_spec : {M : Type 1} → statement M
-refused_by_spec = tie.close (tie.spec returns)
