@@ -1,7 +1,7 @@
 -- Demand 1 over the definition: each call's number is one of document 01's, and a refusal leaves all as it was.
 use Prim.Native.Nat.{ℕ, ◌*◌, ◌%◌, ◌≤◌}
 use mathlib.Core.Path.{◌≡◌, refl}
-use mathlib.Core.Bool.{Bool, not}
+use mathlib.Core.Bool.{not}
 use mathlib.Core.List.{List, []}
 use native.Mathlib.Omega.{arith}
 use lib.Dec.{eqb, ltb, lit≤}
@@ -17,7 +17,7 @@ use Rattle.model.specs.Stored.{chip_size, chip_of, chip_form, fresh_card, record
 use Rattle.model.specs.Stored.{area_size, answer_room}
 use Rattle.model.specs.Table.{spot_of}
 use Rattle.model.specs.Loads.{file_list}
-use Rattle.model.specs.Events.{Reply, event}
+use Rattle.model.specs.Events.{event}
 use Rattle.model.specs.Sound.{sound}
 use Rattle.model.specs.Session.{fresh_of, Turn, refused_by, replied, turn_of, play_of, Session, no_run, events_in, run_of}
 use Rattle.model.specs.Session.{unshown, shown_at, shown_of}

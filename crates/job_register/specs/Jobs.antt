@@ -1,5 +1,5 @@
 -- "The register of a job": what `replay` prints of the session that its order is cut into; or the job's refusal.
-use Rattle.std.specs.Prelude.{ℕ, ◌+◌, ◌*◌, ◌≤◌, ◌≡◌, Bool, cond, not, List, [], eqb, ltb, length}
+use Rattle.std.specs.Prelude.{ℕ, ◌+◌, ◌*◌, ◌≤◌, ◌≡◌, cond, not, List, [], eqb, ltb, length}
 use Rattle.lists.specs.Bytes.{zeros}
 use Rattle.lists.specs.Over.{overwrite}
 use Rattle.model.specs.Stored.{area_size}
