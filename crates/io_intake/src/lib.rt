@@ -71,14 +71,10 @@ fn job_of(count: usize) -> Job
 fn unread(why: Option<io::Error>) -> Job
     ensures { (result.count ≡ 0) × (result.known ≡ 0) }
 {
-    Job {
-        count: 0,
-        known: 0,
-        fault: UNREAD,
-        line: 0,
-        column: 0,
-        why: why,
-    }
+    let mut job = job_of(0);
+    job.fault = UNREAD;
+    job.why = why;
+    job
 }
 
 fn fault_in(mode: Mode) -> u8 {

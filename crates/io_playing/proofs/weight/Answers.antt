@@ -3,8 +3,7 @@ use Prim.Native.Nat.{ℕ, ◌+◌, ◌*◌, ◌≤◌, ◌<◌}
 use native.Mathlib.Omega.{arith}
 use borrow.Author.Rules.{rules}
 use native.Mathlib.Nat.{mul-le-mul}
-use Rattle.io_playing.proofs.weight.Statement.{statement}
-use Rattle.io_playing.proofs.weight.Tie as tie
+use Rattle.io_playing.proofs.weight.Goals as goal
 
 -- a place up to 4,096 times a byte
 most : (i b : ℕ) → i < 4096 → b < 256 → (i + 1) * b ≤ 1044480
@@ -13,12 +12,9 @@ most i b p q =
     let k : b ≤ 255 = omega arith in
     mul-le-mul h k
 
-mul-result : tie.Need-overflow-mul-result
-mul-result c = let h = most c.before.args.i c.wide.result c.before.requires c.wide.ensures.1 in
+pub overflow_mul-result : goal.overflow_mul-result
+overflow_mul-result c = let h = most c.args.i c.wide.result c.requires c.wide.ensures.1 in
     omega (arith, h)
 
-returns : tie.Need-returns
-returns c = most c.before.args.i c.wide.result c.before.requires c.wide.ensures.1
-
-pub weight_spec : {M : Type 1} → statement M
-weight_spec = tie.close (tie.spec (search rules) (search rules) mul-result returns)
+pub returns : goal.returns
+returns c = most c.args.i c.wide.result c.requires c.wide.ensures.1
