@@ -11,7 +11,9 @@ ghost use Rattle.std.specs.Io.KnownBytes.{Consumes, Appends};
 ghost use Rattle.io_edge.specs.Counts.{IsPrefixLen};
 
 pub use files::{open_overwrite, open_read, remove, rename};
-pub use source::{Source, Stream, argument, behind, is_arg, is_text_name, label_buffer, open_last};
+pub use source::{
+    Source, Stream, argument, behind, is_arg, is_text_name, label_buffer, open_last, open_stream,
+};
 use std::fs::{File, OpenOptions};
 use std::io::{ErrorKind, Read, Write};
 use std::{io, thread};
