@@ -1,6 +1,6 @@
 -- Bytes laid one run behind the other, and runs of stored parts.
-use Rattle.std.proofs.Common.{◌≡◌, ℕ, ◌+◌, ◌*◌, ◌<◌, List, [], ◌∷◌, ◌++◌, length, get_or, take, drop, sym, refl, ap, ◌∙◌, append_assoc, append-nil, add-one, arith, length-append, drop_of_length-le, take-suc}
-use Rattle.lists.specs.Over.{overwrite, over_then, over_zero}
+use Rattle.std.proofs.Common.{◌≡◌, ℕ, ◌+◌, ◌*◌, ◌<◌, List, [], ◌∷◌, ◌++◌, length, get_or, take, sym, refl, ap, ◌∙◌, append_assoc, append-nil, add-one, arith, length-append, drop_of_length-le, take-suc}
+use Rattle.lists.specs.Over.{over_then, over_zero}
 use Rattle.model.specs.declared.Descriptor.{Descriptor}
 use Rattle.model.specs.declared.Secret.{Secret}
 use Rattle.calls.specs.Stores.{Puts, descriptor_bytes, files_bytes, secret_bytes, secrets_bytes}

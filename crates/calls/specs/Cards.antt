@@ -1,5 +1,5 @@
 -- The card that 1,050 stored bytes are.
-use Rattle.std.specs.Prelude.{ℕ, zero, suc, ◌+◌, ◌*◌, Bool, cond, not, List, [], ◌∷◌, ◌++◌, ◌==◌}
+use Rattle.std.specs.Prelude.{ℕ, zero, suc, ◌+◌, ◌*◌, cond, not, List, [], ◌∷◌, ◌++◌, ◌==◌}
 use Rattle.lists.specs.Bytes.{byte_at, word_at, part}
 use Rattle.model.specs.declared.Card.{Card}
 use Rattle.model.specs.declared.Descriptor.{Descriptor}

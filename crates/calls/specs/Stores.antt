@@ -1,5 +1,5 @@
 -- The 1,050 bytes that a card is stored as, part by part in their order.
-use Rattle.std.specs.Prelude.{◌≡◌, ℕ, ◌+◌, cond, List, [], ◌∷◌, ◌++◌, length}
+use Rattle.std.specs.Prelude.{◌≡◌, ℕ, cond, List, [], ◌∷◌, ◌++◌, length}
 use Rattle.lists.specs.Over.{overwrite}
 use Rattle.model.specs.declared.Card.{Card}
 use Rattle.model.specs.declared.Chip.{Chip}

@@ -1,0 +1,13 @@
+-- `calls::array4`: a part of 4 bytes, laid over 4 zeros, is the part (`part_laid`).
+use Rattle.std.proofs.Common.{◌∙◌, arith, length-take, rules}
+use Rattle.calls.proofs.Parts.{part_laid}
+use Rattle.calls.proofs.card_in.array4.Goals as goal
+
+pub lay-requires : goal.lay-requires
+lay-requires c = rw c.part_of.ensures (simp length-take (omega arith))
+
+pub returns : goal.returns
+returns c =
+    let s = c in
+    c.lay.ensures
+    ∙ rw c.part_of.ensures (part_laid s.args.b.now s.args.at 4 (search rules))
