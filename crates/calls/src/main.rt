@@ -42,7 +42,7 @@ fn room_for(rt: HostRuntime, fault: &mut u8, out: &[u8], filled: usize) -> usize
     }
     let mut page = io_edge::new_page(rt);
     write(&mut page, &out[..filled]);
-    if !page.good {
+    if page.status != io_edge::DONE {
         *fault = FAILED;
     }
     0
@@ -102,8 +102,8 @@ fn say_wrong(rt: HostRuntime, label: &[u8], s: Stand) {
     }
 }
 
-// The last line. Whether it went out.
-fn print_end(rt: HostRuntime, count: u64) -> bool {
+// The last line. DONE where it went out, else the status.
+fn print_end(rt: HostRuntime, count: u64) -> u8 {
     let mut line = [0u8; 48];
     let n = print_forms::put_form(&mut line, 0, b"END #\n", &[count]);
     io_edge::print(rt, b"calls: standard output", &line[..n])
@@ -120,12 +120,10 @@ fn finish(rt: HostRuntime, out: &[u8], label: &[u8], s: Stand) -> u8
         say_wrong(rt, label, s);
         return io_edge::NOT_DONE;
     }
-    if page.good {
-        if print_end(rt, s.count) {
-            return io_edge::DONE;
-        }
+    if page.status == io_edge::DONE {
+        return print_end(rt, s.count);
     }
-    io_edge::NOT_DONE
+    page.status
 }
 
 // Room for lines: some are gathered before they are written.

@@ -22,10 +22,7 @@ fn cut(rt: HostRuntime, label: &[u8], job: &[u8], lines: &[u32]) -> u8 {
         io_intake::say_refused(rt, label, laid.number, job, lines);
         return io_edge::REFUSED;
     }
-    if io_edge::print(rt, b"cut: standard output", &room[..laid.size]) {
-        return io_edge::DONE;
-    }
-    io_edge::NOT_DONE
+    io_edge::print(rt, b"cut: standard output", &room[..laid.size])
 }
 
 fn run(rt: HostRuntime, label: &[u8], from: &mut Stream, is_text: bool) -> u8 {

@@ -510,7 +510,7 @@ fn open_order(
 
 // Where the reading stands: how much is kept at the window's front and filled of the buffer, how many bytes of a long
 // value are still to come, where the window's front lies in the order and where the grouping under way begins, and
-// what is left to read, whether to go on, and whether a read or a write failed, which was said.
+// what is left to read, whether to go on, and DONE, or the status where a read or a write failed.
 #[derive(Clone, Copy)]
 struct Stand {
     pub kept: usize,
@@ -520,7 +520,7 @@ struct Stand {
     pub began: u64,
     pub input: Input,
     pub going: bool,
-    pub failed: bool,
+    pub status: u8,
 }
 
 // Where a grouping under way begins: behind a long value's start that is kept, else at the window's front.
@@ -543,7 +543,7 @@ fn stopped(s: Stand) -> Stand
         began: s.began,
         input: input,
         going: false,
-        failed: true,
+        status: io_edge::NOT_DONE,
     }
 }
 
@@ -576,8 +576,8 @@ fn print_next(
         front: s.front.wrapping_add(used.at as u64),
         began: began_at(s),
         input: next,
-        going: 0 < used.at && page.good,
-        failed: !page.good,
+        going: 0 < used.at && page.status == io_edge::DONE,
+        status: page.status,
     }
 }
 
@@ -603,7 +603,7 @@ fn print_order(
         began: 0,
         input: input,
         going: true,
-        failed: false,
+        status: io_edge::DONE,
     };
     for _ in 0..u64::MAX {
         s = print_next(rt, from, window, out, s, label);
@@ -656,8 +656,9 @@ fn is_torn(s: Stand) -> bool {
     0 < s.kept
 }
 
-// What is filled of the buffer, the end of a line that was broken off, and the last line. Whether all went out.
-fn print_ending(rt: HostRuntime, out: &[u8], s: Stand) -> bool
+// What is filled of the buffer, the end of a line that was broken off, and the last line. DONE where all went out, else
+// the status.
+fn print_ending(rt: HostRuntime, out: &[u8], s: Stand) -> u8
     requires { s.filled ≤ length out.now }
 {
     let filled = s.filled;
@@ -672,7 +673,7 @@ fn print_ending(rt: HostRuntime, out: &[u8], s: Stand) -> bool
     );
     write(&mut page, &out[..filled]);
     write(&mut page, &line[..n]);
-    page.good
+    page.status
 }
 
 fn say_torn(rt: HostRuntime, label: &[u8], s: Stand, rest: u64) {
@@ -707,22 +708,23 @@ fn groupings(rt: HostRuntime, from: &mut Stream, input: Input, is_job: bool, lab
     }
     let first = begun.input;
     let s = print_order(rt, from, &mut window, &mut out, begun.kept, first, label);
-    if s.failed {
-        return io_edge::NOT_DONE;
+    if s.status != io_edge::DONE {
+        return s.status;
     }
     let left = s.input;
     let rest = read_rest(rt, from, &mut window, left, label);
     if rest.failed {
         return io_edge::NOT_DONE;
     }
-    if print_ending(rt, &out, s) {
+    let printed = print_ending(rt, &out, s);
+    if printed == io_edge::DONE {
         let torn = is_torn(s);
         if torn {
             say_torn(rt, label, s, rest.count);
         }
         return io_edge::status_of(torn);
     }
-    io_edge::NOT_DONE
+    printed
 }
 
 // Nothing is read yet.

@@ -6,7 +6,7 @@ mod files;
 mod source;
 mod text;
 
-ghost use Rattle.std.specs.Prelude.{◌≡◌, cond, ◌≤◌, length, take, OnOk, true};
+ghost use Rattle.std.specs.Prelude.{◌≡◌, ◌↔◌, cond, ◌≤◌, length, take, IsTrue, OnOk};
 ghost use Rattle.std.specs.Io.KnownBytes.{Consumes, Appends};
 ghost use Rattle.io_edge.specs.Counts.{IsPrefixLen};
 
@@ -126,43 +126,63 @@ pub fn read_labelled<R: Read>(rt: HostRuntime, label: &[u8], from: &mut R, room:
     got
 }
 
-// Writes to standard output as `write_whole`. A failure is said likewise.
-pub fn print(rt: HostRuntime, label: &[u8], bytes: &[u8]) -> bool {
+// What a program comes to whose write to standard output failed. That the reader has gone is said to nobody.
+fn not_printed(rt: HostRuntime, label: &[u8], error: io::Error) -> u8 {
+    if let ErrorKind::BrokenPipe = error.kind() {
+        return GONE;
+    }
+    say_failed(rt, label, Some(error));
+    NOT_DONE
+}
+
+// Writes to standard output as `write_whole`. DONE, or the status of a program that could not; a failure is said
+// likewise.
+pub fn print(rt: HostRuntime, label: &[u8], bytes: &[u8]) -> u8 {
     match write_whole(&mut rt.stdout(), bytes) {
-        Ok(()) => true,
-        Err(e) => {
-            say_failed(rt, label, Some(e));
-            false
-        }
+        Ok(()) => DONE,
+        Err(e) => not_printed(rt, label, e),
     }
 }
 
-// What goes to standard output, and whether all went out so far.
+// What goes to standard output, and DONE where all went out so far, else the status.
 #[derive(Clone, Copy)]
 pub struct Page {
     pub rt: HostRuntime,
-    pub good: bool,
+    pub status: u8,
 }
 
 pub fn new_page(rt: HostRuntime) -> Page
-    ensures { result.good ≡ true }
+    ensures { result.status ≡ 0 }
 {
-    Page { rt: rt, good: true }
+    Page {
+        rt: rt,
+        status: DONE,
+    }
 }
 
 // Where a write failed, nothing is written behind it.
 pub fn print_on(page: &mut Page, label: &[u8], bytes: &[u8]) {
-    if page.good {
-        page.good = print(page.rt, label, bytes);
+    if page.status == DONE {
+        page.status = print(page.rt, label, bytes);
     }
 }
 
-// The statuses: done; something was refused by a number; not done, which was said on standard error.
+// The statuses: done; something was refused by a number; not done, which was said on standard error; not done, since
+// the reader of standard output has gone.
 pub const DONE: u8 = 0;
 
 pub const REFUSED: u8 = 1;
 
 pub const NOT_DONE: u8 = 2;
+
+pub const GONE: u8 = 4;
+
+// Whether a program came to its end.
+pub fn is_done(status: u8) -> bool
+    ensures { IsTrue result ↔ (status ≤ 1) }
+{
+    status == DONE || status == REFUSED
+}
 
 pub fn status_of(refused: bool) -> u8
     ensures { result ≡ cond refused 1 0 }

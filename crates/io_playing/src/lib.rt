@@ -74,7 +74,7 @@ pub fn begin(rt: HostRuntime, label: &[u8], from: &mut Stream) -> Begun
 
 // How far a session is played: the card, the number of events by its last five digits, what was noted of them, how
 // many bytes of lines are gathered, and how many of the session are behind the last whole record; whether to go on,
-// and whether a read or a write failed, which was said.
+// and DONE, or the status where a read or a write failed.
 #[derive(Clone, Copy)]
 struct Stand {
     pub card: Card,
@@ -83,15 +83,15 @@ struct Stand {
     pub gathered: usize,
     pub left: usize,
     pub going: bool,
-    pub failed: bool,
+    pub status: u8,
 }
 
-// What was noted so far, how much is gathered, and whether all lines went out that were to.
+// What was noted so far, how much is gathered, and DONE where all lines went out that were to, else the status.
 #[derive(Clone, Copy)]
 struct Report {
     pub noted: Noted,
     pub gathered: usize,
-    pub good: bool,
+    pub status: u8,
 }
 
 // Records that were played, with their lines from `at` on: what is refused is said. The lines are printed behind the
@@ -114,7 +114,7 @@ fn reported(
         return Report {
             noted: noted,
             gathered: 0,
-            good: true,
+            status: io_edge::DONE,
         };
     }
     let end = at + records.len() / model::RECORD_SIZE * model::LINE_SIZE;
@@ -123,14 +123,14 @@ fn reported(
             return Report {
                 noted: noted,
                 gathered: end,
-                good: true,
+                status: io_edge::DONE,
             };
         }
     }
     Report {
         noted: noted,
         gathered: 0,
-        good: io_edge::print(rt, output, &lines[..end]),
+        status: io_edge::print(rt, output, &lines[..end]),
     }
 }
 
@@ -176,7 +176,7 @@ fn play_block(
             gathered: 0,
             left: 0,
             going: false,
-            failed: true,
+            status: io_edge::NOT_DONE,
         };
     }
     let records = &block[..got.count];
@@ -191,8 +191,8 @@ fn play_block(
         noted: so_far,
         gathered: report.gathered,
         left: got.count % model::RECORD_SIZE,
-        going: got.count == BLOCK_SIZE && report.good,
-        failed: !report.good,
+        going: got.count == BLOCK_SIZE && report.status == io_edge::DONE,
+        status: report.status,
     }
 }
 
@@ -221,7 +221,7 @@ fn play_all(
         gathered: 0,
         left: 0,
         going: true,
-        failed: false,
+        status: io_edge::DONE,
     };
     for _ in 0..u64::MAX {
         s = play_block(rt, s, area, &mut block, &mut lines, from, label, output);
@@ -244,11 +244,15 @@ pub struct Outcome {
 }
 
 // The session's end is told, where it was reached.
-fn status_after(rt: HostRuntime, label: &[u8], noted: Noted, left: usize, ended: bool) -> u8 {
-    if ended {
-        return io_edge::status_of(io_remarks::note_end(rt, label, noted, left));
+fn status_after(rt: HostRuntime, label: &[u8], s: Stand) -> u8 {
+    if s.status != io_edge::DONE {
+        return s.status;
     }
-    io_edge::NOT_DONE
+    if s.going {
+        return io_edge::NOT_DONE;
+    }
+    let noted = s.noted;
+    io_edge::status_of(io_remarks::note_end(rt, label, noted, s.left))
 }
 
 fn outcome_of(rt: HostRuntime, label: &[u8], s: Stand) -> Outcome
@@ -256,13 +260,13 @@ fn outcome_of(rt: HostRuntime, label: &[u8], s: Stand) -> Outcome
 {
     let card = s.card;
     let noted = s.noted;
-    let ended = !s.going && !s.failed;
+    let ended = !s.going && s.status == io_edge::DONE;
     Outcome {
         card: card,
         events: noted.events,
         count: s.count,
         ended: ended,
-        status: status_after(rt, label, noted, s.left, ended),
+        status: status_after(rt, label, s),
     }
 }
 

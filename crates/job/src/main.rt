@@ -27,10 +27,11 @@ fn print_register(rt: HostRuntime, out: &[u8], entry: Entry) -> u8
     requires { (length out.now ≡ 1232) × (entry.events ≤ 47) }
 {
     let size = entry.events * LINE_SIZE + END_SIZE;
-    if io_edge::print(rt, b"job: standard output", &out[..size]) {
+    let printed = io_edge::print(rt, b"job: standard output", &out[..size]);
+    if printed == io_edge::DONE {
         return io_edge::status_of(entry.gp != 0x07 || entry.internal != 0xA5);
     }
-    io_edge::NOT_DONE
+    printed
 }
 
 // A job, and the lines of its text, none where it is no text.

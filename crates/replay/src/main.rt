@@ -4,8 +4,8 @@
 
 use io_edge::Stream;
 
-// Whether the last line went out.
-fn print_end(rt: HostRuntime, count: u64) -> bool {
+// The last line. DONE where it went out, else the status.
+fn print_end(rt: HostRuntime, count: u64) -> u8 {
     let mut end = [0u8; 10];
     register_lines::put_end(&mut end, 0, count);
     io_edge::print(rt, b"replay: standard output", &end)
@@ -19,16 +19,17 @@ fn say_sum(rt: HostRuntime, sum: usize) {
 fn replay(rt: HostRuntime, from: &mut Stream, label: &[u8], sums: bool) -> u8 {
     let mut area = io_playing::clear_area();
     let outcome = io_playing::play(rt, label, from, &mut area, b"replay: standard output");
-    if outcome.status == io_edge::NOT_DONE {
-        return io_edge::NOT_DONE;
+    if !io_edge::is_done(outcome.status) {
+        return outcome.status;
     }
-    if print_end(rt, outcome.count) {
+    let printed = print_end(rt, outcome.count);
+    if printed == io_edge::DONE {
         if sums {
             say_sum(rt, io_playing::place_sum(&area));
         }
         return outcome.status;
     }
-    io_edge::NOT_DONE
+    printed
 }
 
 fn main(rt: HostRuntime) {

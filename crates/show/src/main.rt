@@ -21,10 +21,10 @@ fn show(rt: HostRuntime, from: &mut Stream, label: &[u8]) -> u8 {
     let mut page = io_edge::new_page(rt);
     write_facts(&mut page, card, outcome.events);
     write_table(&mut page, card, &area);
-    if page.good {
+    if page.status == io_edge::DONE {
         return outcome.status;
     }
-    io_edge::NOT_DONE
+    page.status
 }
 
 fn main(rt: HostRuntime) {

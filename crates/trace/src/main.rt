@@ -291,14 +291,14 @@ fn trace_all(
 }
 
 // How far a session is traced: the card, what was noted; how many bytes are behind the last whole record; whether to
-// go on, and whether a read or a write failed, which was said.
+// go on, and DONE, or the status where a read or a write failed.
 #[derive(Clone, Copy)]
 struct Stand {
     pub card: Card,
     pub noted: Noted,
     pub left: usize,
     pub going: bool,
-    pub failed: bool,
+    pub status: u8,
 }
 
 fn line_buffer() -> [u8; 62400]
@@ -323,8 +323,8 @@ fn trace_records(rt: HostRuntime, s: Stand, area: &mut [u8], records: &[u8], lab
         card: card,
         noted: so_far,
         left: records.len() % RECORD_SIZE,
-        going: records.len() == BLOCK_SIZE && printed,
-        failed: !printed,
+        going: records.len() == BLOCK_SIZE && printed == io_edge::DONE,
+        status: printed,
     }
 }
 
@@ -349,7 +349,7 @@ fn trace_block(rt: HostRuntime, s: Stand, area: &mut [u8], from: &mut Stream, la
             noted: noted,
             left: 0,
             going: false,
-            failed: true,
+            status: io_edge::NOT_DONE,
         };
     }
     trace_records(rt, s, area, &block[..got.count], label)
@@ -357,7 +357,10 @@ fn trace_block(rt: HostRuntime, s: Stand, area: &mut [u8], from: &mut Stream, la
 
 // The session's end.
 fn status_after(rt: HostRuntime, label: &[u8], s: Stand) -> u8 {
-    if s.going || s.failed {
+    if s.status != io_edge::DONE {
+        return s.status;
+    }
+    if s.going {
         return io_edge::NOT_DONE;
     }
     let noted = s.noted;
@@ -378,7 +381,7 @@ fn trace_blocks(rt: HostRuntime, c: Card, area: &mut [u8], from: &mut Stream, la
         noted: noted,
         left: 0,
         going: true,
-        failed: false,
+        status: io_edge::DONE,
     };
     for _ in 0..u64::MAX {
         s = trace_block(rt, s, area, from, label);
@@ -401,10 +404,11 @@ fn print_area(rt: HostRuntime, area: &[u8], status: u8) -> u8 {
     let named = print_forms::put_text(&mut line, 0, b"AREA ");
     let shown = print_forms::put_hex(&mut line, named, area);
     let end = print_forms::put_text(&mut line, shown, b"\n");
-    if io_edge::print(rt, b"trace: standard output", &line[..end]) {
+    let printed = io_edge::print(rt, b"trace: standard output", &line[..end]);
+    if printed == io_edge::DONE {
         return status;
     }
-    io_edge::NOT_DONE
+    printed
 }
 
 // The events of the card that the chip record gives, and the area after them.
@@ -413,10 +417,10 @@ fn trace_card(rt: HostRuntime, c: Card, from: &mut Stream, label: &[u8]) -> u8
 {
     let mut area = io_playing::clear_area();
     let status = trace_blocks(rt, c, &mut area, from, label);
-    if status == io_edge::NOT_DONE {
-        return status;
+    if io_edge::is_done(status) {
+        return print_area(rt, &area, status);
     }
-    print_area(rt, &area, status)
+    status
 }
 
 fn trace(rt: HostRuntime, from: &mut Stream, label: &[u8]) -> u8 {
@@ -425,11 +429,12 @@ fn trace(rt: HostRuntime, from: &mut Stream, label: &[u8]) -> u8 {
         return trace_card(rt, begun.card, from, label);
     }
     if begun.status == io_edge::REFUSED {
-        if io_edge::print(rt, b"trace: standard output", b"REFUSED 07\n") {
-            return io_edge::REFUSED;
+        let printed = io_edge::print(rt, b"trace: standard output", b"REFUSED 07\n");
+        if printed != io_edge::DONE {
+            return printed;
         }
     }
-    io_edge::NOT_DONE
+    begun.status
 }
 
 fn main(rt: HostRuntime) {
