@@ -4,11 +4,7 @@ use mathlib.Core.Path.{sym}
 use lib.ListN.{length}
 use lib.Seq.{length-take-le}
 use borrow.Author.Rules.{rules}
-use Rattle.lot.proofs.line.put_name.Statement.{statement}
-use Rattle.lot.proofs.line.put_name.Tie as tie
+use Rattle.lot.proofs.line.put_name.Goals as goal
 
-returns : tie.Need-returns
+pub returns : goal.returns
 returns c = (search rules, search rules, sym (length-take-le _ _ (search rules)))
-
-pub put_name_spec : {M : Type 1} → statement M
-put_name_spec = tie.close (tie.spec (search rules) (search rules) (search rules) returns)
