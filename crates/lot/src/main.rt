@@ -395,7 +395,7 @@ fn pass_on(rt: HostRuntime, out: &[u8], gathered: usize, waits: bool) -> Sent
     }
     Sent {
         gathered: 0,
-        good: io_edge::print(rt, b"lot: standard output", &out[..gathered]),
+        good: io_edge::print(rt, b"lot: standard output", &out[..gathered]) == io_edge::DONE,
     }
 }
 
