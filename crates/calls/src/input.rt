@@ -16,6 +16,7 @@ pub const TOO_LONG: u8 = 2;
 
 pub const UNKNOWN: u8 = 3;
 
+// A read or a write failed, which was said, or the reader of standard output has gone.
 pub const FAILED: u8 = 4;
 
 pub const ENDED: u8 = 5;

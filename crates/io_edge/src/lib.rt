@@ -16,11 +16,15 @@ pub use source::{
 };
 use std::fs::{File, OpenOptions};
 use std::io::{ErrorKind, Read, Write};
+use std::os::fd::AsRawFd;
 use std::{io, thread};
 pub use text::{say, say_failed, say_fault, say_form};
 
 // Where a status goes. The wrapper listens there, on descriptor 3.
 const STATUS_FILE: &str = "/dev/fd/3";
+
+// Descriptors 0 to 2 are input, output and errors.
+const STANDARD_FILES: i32 = 3;
 
 // What `read_full` read, and whether a read failed; then also why.
 #[derive(Drop)]
@@ -194,12 +198,16 @@ pub fn status_of(refused: bool) -> u8
 }
 
 // Who hears the status of a program that was asked to tell it. A program opens this before any other file: were
-// descriptor 3 closed, that file would stand there.
+// descriptor 3 closed, that file would stand there. Were one of the first three closed, this would stand in its place,
+// and what a program prints would be heard as its status: then nobody hears it.
 pub fn listener(rt: HostRuntime, asked: bool) -> Option<File> {
-    if asked {
-        return OpenOptions::new().write(true).open(&rt, STATUS_FILE).ok();
+    if !asked {
+        return None;
     }
-    None
+    match OpenOptions::new().append(true).open(&rt, STATUS_FILE) {
+        Ok(heard) if STANDARD_FILES <= heard.as_raw_fd() => Some(heard),
+        _ => None,
+    }
 }
 
 // The last act of such a program. Who hears nothing knows that it did not come to its end.
