@@ -6,6 +6,8 @@ ghost use Rattle.std.specs.Prelude.{◌≡◌, ◌+◌, ◌*◌, ◌/◌, ◌≤
 ghost use Rattle.lists.specs.Bytes.{zeros};
 ghost use Rattle.model.specs.Stored.{area_size};
 ghost use Rattle.theorem_sound.specs.Keeps.{Good};
+ghost use Rattle.register_entries.specs.Entries.{entered_of};
+ghost use Rattle.io_playing.specs.Blocks.{Plays, PlaysBlock};
 
 use io_edge::Stream;
 use io_remarks::Noted;
@@ -145,7 +147,9 @@ fn enter_at(
 ) -> Entered
     requires { Good area_size c area.old × (count < 100000)
         × (at + length records.now / 260 * 26 ≤ length lines.old) }
-    ensures { Good area_size result.card area.new × (result.count < 100000) }
+    ensures good { Good area_size result.card area.new × (result.count < 100000) }
+    ensures plays { Plays (entered_of (length records.now / 260) count c area.old records.now)
+        result.card area.new result.count }
 {
     register_entries::enter_all(c, area, records, count, &mut lines[at..])
 }
@@ -163,7 +167,8 @@ fn play_block(
 ) -> Stand
     requires { Good area_size s.card area.old × (s.count < 100000) × (length block.old ≡ 32760)
         × (length lines.old ≡ 32760) × (s.gathered + 3276 ≤ 32760) }
-    ensures { Good area_size result.card area.new × (result.count < 100000) × (result.gathered + 3276 ≤ 32760) }
+    ensures good { Good area_size result.card area.new × (result.count < 100000) × (result.gathered + 3276 ≤ 32760) }
+    ensures plays { PlaysBlock s.count s.card area.old block.new result.card area.new result.count }
 {
     let card = s.card;
     let noted = s.noted;
