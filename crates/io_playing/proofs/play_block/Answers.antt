@@ -7,4 +7,4 @@ use Rattle.io_playing.proofs.play_block.Goals as goal
 pub returns-then-got-clause-plays : goal.returns-then-got-clause-plays
 unfolding entries records_in
 returns-then-got-clause-plays c =
-    record { n = 0; within = omega arith; played = record { leaves = refl; keeps = refl; counts = refl; }; }
+    record { n = 0; within = omega arith; played = record { leaves = refl; keeps = refl; counts = refl } }
