@@ -1,3 +1,4 @@
+pub mod Sorts
 pub mod Laying
 pub mod Runs
 pub mod Theorems
