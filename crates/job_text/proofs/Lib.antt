@@ -1,4 +1,3 @@
-pub mod Sorts
 pub mod Laying
 pub mod Runs
 pub mod Theorems

@@ -1,19 +1,16 @@
 -- Laws of reading: characters and then more characters.
-use Prim.Native.Nat.{ℕ, ◌+◌, ◌≤◌, ◌<◌, min}
+use Prim.Native.Nat.{ℕ, ◌+◌, ◌≤◌, min}
 use mathlib.Core.Path.{◌≡◌, refl, sym, ap, ◌∙◌}
 use mathlib.Core.List.{List, [], ◌∷◌, ◌++◌, append_assoc, append-nil}
 use native.Mathlib.Omega.{arith}
-use native.Mathlib.Numerals.{add-one}
-use lib.ListN.{length, get_or, take, length-append}
-use lib.Seq.{take-suc}
+use lib.ListN.{length, length-append}
 use Rattle.lists.specs.Over.{overwrite, over_none, length_over}
 use Rattle.std.specs.Prelude.{Option, None, Some}
 use Rattle.job_text.specs.declared.Place.{Place}
-use Rattle.job_text.specs.declared.Reading.{Reading}
 use Rattle.job_text.specs.declared.Mode.TheVariants.{Between}
 use Rattle.job_text.specs.Places.{place, more, step, byte_of, bytes_in, lines_in}
 use Rattle.job_text.specs.Pairs.{Pair}
-use Rattle.job_text.specs.Text.{place_from, bytes_from, lines_from, reading, reached}
+use Rattle.job_text.specs.Text.{place_from, bytes_from, lines_from}
 use Rattle.job_text.proofs.Laying.{over_room}
 
 pub place_append : (xs ys : List ℕ) (p : Place) → place_from p (xs ++ ys) ≡ place_from (place_from p xs) ys
@@ -66,9 +63,6 @@ module _ (p₀ : Place) (n₀ : ℕ) (out₀ lines₀ : List ℕ) where
 
   module _ (same : length lines₀ ≡ length out₀) {xs : List ℕ} {p : Place} {n : ℕ} {out lines : List ℕ}
       (h : Laid p₀ n₀ out₀ lines₀ xs p n out lines) where
-    pub laid_fits : (length lines ≡ length out) × (n ≤ length out)
-    laid_fits = (simp (h.bytes, h.starts, length_over) same, rw (h.count, h.bytes, length_over) (omega arith))
-
     pub laid_then : {ys : List ℕ} {p' : Place} {n' : ℕ} {out' lines' : List ℕ}
         → Laid p n out lines ys p' n' out' lines'
         → Laid p₀ n₀ out₀ lines₀ (xs ++ ys) p' n' out' lines'
@@ -97,19 +91,10 @@ pub record Before (p₀ : Place) (n₀ : ℕ) (out₀ lines₀ chars rest : List
   pub all : chars ≡ done ++ rest
   pub laid : Laid p₀ n₀ out₀ lines₀ done p n out lines
 
--- None are before them all, and all are before none.
+-- None are before them all.
 pub before_all : {p : Place} {n : ℕ} {out lines chars : List ℕ} → n ≤ length out
     → Before p n out lines chars chars p n out lines
 before_all {p} {n} {out} {lines} h = record { done = []; all = refl; laid = laid_none p n out lines h }
-
-pub before_none : {p₀ : Place} {n₀ : ℕ} {out₀ lines₀ chars : List ℕ} {p : Place} {n : ℕ} {out lines : List ℕ}
-    → Before p₀ n₀ out₀ lines₀ chars [] p n out lines → Laid p₀ n₀ out₀ lines₀ chars p n out lines
-before_none b = rw (b.all, append-nil) b.laid
-
--- The reading that they leave.
-pub laid_reading : (r : Reading) {out₀ lines₀ xs : List ℕ} {p : Place} {n : ℕ} {out lines : List ℕ}
-    → Laid r.place r.count out₀ lines₀ xs p n out lines → reading p n ≡ reached (length out₀) r xs
-laid_reading r h = rw (h.place, h.count)
 
 -- One character, as the code reads it.
 module _ {p p' : Place} {n n' x : ℕ} {out lines out' lines' : List ℕ} {g : Option ℕ}

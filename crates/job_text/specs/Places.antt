@@ -4,7 +4,6 @@ use Rattle.job_text.specs.declared.Sort.{Sort}
 use Rattle.job_text.specs.declared.Sort.TheVariants.{Digit, Blank, Break, Hash, Other}
 use Rattle.job_text.specs.declared.Mode.{Mode}
 use Rattle.job_text.specs.declared.Mode.TheVariants.{Mark, Between, Half, Comment, Wrong}
-use Rattle.job_text.specs.declared.Fault.{Fault}
 use Rattle.job_text.specs.declared.Fault.TheVariants.{NoDigit, HalfByte}
 use Rattle.job_text.specs.declared.Place.{Place}
 use Rattle.job_text.specs.Characters.{sort_of}

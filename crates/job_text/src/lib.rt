@@ -81,6 +81,7 @@ pub struct Reading {
 impl From<u8> for Sort {
     ghost from_gives = { λ x s. s ≡ sort_of x };
 
+    #[tactic(auto, using(std::proofs::lemmas::Bool::Decides::nat_tests), unfolding(crate::specs::Characters::sort_of))]
     fn from(x: u8) -> Self {
         match x {
             b' ' | b'\t' | b'\r' => Sort::Blank,
