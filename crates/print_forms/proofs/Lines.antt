@@ -1,5 +1,5 @@
 -- What a line holds once a run is laid behind its text.
-use Rattle.std.proofs.Common.{◌≡◌, ℕ, ◌+◌, ◌*◌, ◌-◌, ◌/◌, ◌≤◌, List, ◌++◌, length, take, drop, min, sym, ap, ◌∙◌, arith, append_assoc, length-append, length-take, length-drop, length-take-le, take_at}
+use Rattle.std.proofs.Common.{◌≡◌, ℕ, ◌+◌, ◌*◌, ◌-◌, ◌/◌, ◌≤◌, List, ◌++◌, length, take, drop, min, sym, ap, ◌∙◌, arith, append_assoc, length-append, length-drop, length-take-le, take_at}
 use Rattle.std.proofs.lemmas.List.{take_min}
 use Rattle.lists.specs.Over.{overwrite, over_part, over_zero}
 use Rattle.print_numbers.specs.Trace.{hex_of, decimal_of, width_of}
