@@ -3,7 +3,7 @@ use native.Mathlib.Omega.{arith}
 use lib.ListN.{length-take}
 use borrow.Author.Rules.{rules}
 use Rattle.print_forms.proofs.Cuts.{behind}
-use Rattle.print_forms.proofs.put_text.Goals as goal
+use Rattle.print_forms.proofs.forms.put_text.Goals as goal
 
 pub slice_bounds-put_bytes-end : goal.slice_bounds-put_bytes-end
 slice_bounds-put_bytes-end c = simp length-take (omega arith)

@@ -2,7 +2,7 @@
 use native.Mathlib.Omega.{arith}
 use lib.ListN.{length-take}
 use Rattle.print_forms.proofs.Cuts.{behind}
-use Rattle.print_forms.proofs.put_hex.Goals as goal
+use Rattle.print_forms.proofs.forms.put_hex.Goals as goal
 
 pub slice_bounds-put_hex-end : goal.slice_bounds-put_hex-end
 slice_bounds-put_hex-end c = simp length-take (omega arith)

@@ -2,7 +2,7 @@
 -- so `taken` is at most i.
 use borrow.Author.Rules.{rules}
 use Rattle.print_forms.proofs.Cuts.{behind}
-use Rattle.print_forms.proofs.put_form.Goals as goal
+use Rattle.print_forms.proofs.forms.put_form.Goals as goal
 
 pub returns : goal.returns
 returns c = behind _ _ _ (search rules) (search rules)
