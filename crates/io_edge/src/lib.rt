@@ -14,7 +14,7 @@ ghost use Rattle.io_edge.specs.Counts.{IsPrefixLen, count_in};
 
 pub use files::{open_overwrite, open_read, remove, rename};
 pub use page::Page;
-pub use source::{Arguments, LABEL_SIZE, Source, Stream, is_text_name, open_stream};
+pub use source::{Arguments, Label, Source, Stream, is_text_name, open_stream};
 pub use status::{Failure, Status, listener, tell};
 use std::io::{ErrorKind, Read, Write};
 use std::{io, thread};
