@@ -41,12 +41,6 @@ impl Read for Stream {
     }
 }
 
-// The file of a name.
-pub fn open_stream<R: Files<File = File>>(rt: &R, name: &[u8]) -> io::Result<Stream> {
-    let file = open_read(rt, name)?;
-    Ok(Stream::Named(file))
-}
-
 // What a program reads, who says what is wrong with that, and whether its name is that of a text.
 #[derive(Drop)]
 pub struct Source<'a> {
@@ -149,9 +143,9 @@ impl<'a, R: Env + Files<File = File>> Arguments<'a, R> {
         let name = &room[..n];
         label.put_text(name);
         let voice = self.voice.labelled(label.as_bytes());
-        match open_stream(self.rt, name) {
-            Ok(from) => Ok(Source {
-                from,
+        match open_read(self.rt, name) {
+            Ok(file) => Ok(Source {
+                from: Stream::Named(file),
                 voice,
                 is_text: is_text_name(name),
             }),
