@@ -6,13 +6,16 @@ use crate::files::open_read;
 use crate::status::Failure;
 use crate::voice::Voice;
 use crate::{ReadError, read_labelled};
+use print_forms::Line;
 use std::env::{Env, FillError};
 use std::fs::{File, Files};
 use std::io;
 use std::io::{Read, Stdin};
 
 // Room for a label: a program's name, a colon, a blank, and a file's name of up to 4,095 bytes.
-pub const LABEL_SIZE: usize = 4128;
+const LABEL_SIZE: usize = 4128;
+
+pub type Label = Line<LABEL_SIZE>;
 
 // An option is shorter. A longer argument is none.
 const WORD_SIZE: usize = 16;
@@ -36,12 +39,6 @@ impl Read for Stream {
             Stream::Named(file) => file.read(buf),
         }
     }
-}
-
-// The file of a name.
-pub fn open_stream<R: Files<File = File>>(rt: &R, name: &[u8]) -> io::Result<Stream> {
-    let file = open_read(rt, name)?;
-    Ok(Stream::Named(file))
 }
 
 // What a program reads, who says what is wrong with that, and whether its name is that of a text.
@@ -113,50 +110,42 @@ impl<'a, R: Env + Files<File = File>> Arguments<'a, R> {
 
     // What the next argument names, or standard input where there is none; nothing may follow. The label is the
     // program's and the file's name.
-    pub fn open_last<'b>(&self, stdin: Stdin, label: &'b mut [u8]) -> Result<Source<'b>, Failure>
+    pub fn open_last<'b>(&self, stdin: Stdin, label: &'b mut Label) -> Result<Source<'b>, Failure>
         requires { self.now.next ≤ 9 }
     {
         if self.has(self.next + 1) {
             self.voice.say(b"one file, or none for standard input\n");
             return Err(Failure::NotDone);
         }
-        let filled = print_forms::put_text(label, 0, self.voice.label);
+        label.clear();
+        label.put_text(self.voice.label);
         if self.has(self.next) {
-            return self.open_named(label, filled);
+            return self.open_named(label);
         }
-        let end = print_forms::put_text(label, filled, b"standard input");
+        label.put_text(b"standard input");
         Ok(Source {
             from: Stream::Standard(stdin),
-            voice: self.voice.labelled(&label[..end]),
+            voice: self.voice.labelled(label.as_bytes()),
             is_text: false,
         })
     }
 
-    // Opens the file that the next argument names, behind the program's name in the label. An empty name is one that
-    // there is no file of; one that the label has no room for is too long.
-    fn open_named<'b>(&self, label: &'b mut [u8], filled: usize) -> Result<Source<'b>, Failure>
-        requires { filled ≤ length label.old }
-    {
-        match self.rt.arg(self.next, &mut label[filled..]) {
-            Ok(n) => self.open_label(&label[..filled + n], filled),
-            Err(_) => {
-                let end = print_forms::put_text(label, filled, b"FILE");
-                let why = io::Error::from_raw_os_error(ENAMETOOLONG);
-                self.voice.labelled(&label[..end]).say_failed(why);
-                Err(Failure::NotDone)
-            }
-        }
-    }
-
-    // The file of a label's name, which begins behind what was filled.
-    fn open_label<'b>(&self, label: &'b [u8], filled: usize) -> Result<Source<'b>, Failure>
-        requires { filled ≤ length label.now }
-    {
-        let name = &label[filled..];
-        let voice = self.voice.labelled(label);
-        match open_stream(self.rt, name) {
-            Ok(from) => Ok(Source {
-                from,
+    // The file that the next argument names. An empty name is one that there is no file of; one that the label has no
+    // room for is too long.
+    fn open_named<'b>(&self, label: &'b mut Label) -> Result<Source<'b>, Failure> {
+        let mut room = [0u8; LABEL_SIZE];
+        let Some(n) = self.copy_next(&mut room[..label.room()]) else {
+            label.put_text(b"FILE");
+            let why = io::Error::from_raw_os_error(ENAMETOOLONG);
+            self.voice.labelled(label.as_bytes()).say_failed(why);
+            return Err(Failure::NotDone);
+        };
+        let name = &room[..n];
+        label.put_text(name);
+        let voice = self.voice.labelled(label.as_bytes());
+        match open_read(self.rt, name) {
+            Ok(file) => Ok(Source {
+                from: Stream::Named(file),
                 voice,
                 is_text: is_text_name(name),
             }),

@@ -2,9 +2,10 @@
 ghost use Rattle.std.specs.Prelude.{◌≤◌, length};
 
 use crate::write_whole;
-use std::fmt::Write;
+use print_forms::Line;
+use std::fmt::{Display, Write};
+use std::io;
 use std::io::Stderr;
-use std::{fmt, io};
 
 const LINE_SIZE: usize = 256;
 
@@ -31,47 +32,30 @@ impl Voice<'_> {
         let _ = write_whole(&mut err, text);
     }
 
-    // The label and a form of up to 236 characters.
-    pub fn say_form(self, form: &[u8], values: &[u64]) {
-        let mut line = [0u8; LINE_SIZE];
-        let n = print_forms::put_form(&mut line, 0, form, values);
-        self.say(&line[..n]);
+    // The label and what a value displays, up to 256 characters of it.
+    pub fn say_line<D: Display + Drop>(self, words: D) {
+        let mut line = Line::<LINE_SIZE>::new();
+        let _ = write!(line, "{words}");
+        self.say(line.as_bytes());
     }
 
     // A text's fault at a place. What stands there is not told, since it could be a key's.
     pub fn say_fault(self, is_half: bool, line: u32, column: u32) {
-        self.say_form(
-            b": line #, column #: %{\x00not a hexadecimal digit|\x01half a byte: the digit stands alone|}\n",
-            &[line as u64, column as u64, is_half as u64],
-        );
+        let fault = if is_half {
+            "half a byte: the digit stands alone"
+        } else {
+            "not a hexadecimal digit"
+        };
+        self.say_line(format_args!(": line {line}, column {column}: {fault}\n"));
     }
 
     // What failed and why: the label, and the system's reason.
     pub fn say_failed(self, why: io::Error) {
-        let mut words = Words {
-            text: [0; LINE_SIZE],
-            filled: 0,
-        };
-        let _ = write!(words, ": {why}");
-        let filled = words.filled.min(LINE_SIZE);
-        let n = words_end(&words.text[..filled]);
-        self.say(&words.text[..n]);
+        let mut line = Line::<LINE_SIZE>::new();
+        let _ = write!(line, ": {why}");
+        let words = line.as_bytes();
+        self.say(&words[..words_end(words)]);
         self.labelled(b"\n").say(b"");
-    }
-}
-
-// A reason in words, as far as there is room.
-#[derive(Drop)]
-struct Words {
-    text: [u8; LINE_SIZE],
-    filled: usize,
-}
-
-impl Write for Words {
-    fn write_str(&mut self, s: &str) -> fmt::Result {
-        let at = self.filled.min(LINE_SIZE);
-        self.filled = print_forms::put_text(&mut self.text, at, s.as_bytes());
-        Ok(())
     }
 }
 

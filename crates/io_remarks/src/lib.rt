@@ -2,7 +2,7 @@
 // that is refused, and a last record that is not whole. Each line begins with a voice's label, as `replay: FILE`.
 #![tactic(auto)]
 
-ghost use Rattle.std.specs.Prelude.{◌≡◌, ◌+◌, ◌*◌, ◌/◌, ◌≤◌, length};
+ghost use Rattle.std.specs.Prelude.{◌≡◌, ◌+◌, ◌*◌, ◌/◌, ◌≤◌, ◌↔◌, length};
 
 use io_edge::{Status, Voice};
 use model::{CHIP_SIZE, DATA_PLACE, LINE_SIZE, RECORD_SIZE};
@@ -22,10 +22,10 @@ const MOST: u64 = 0x4_0000_0000_0000;
 // A chip record that is refused.
 pub fn note_chip(voice: Voice, chip: &[u8]) {
     if chip.len() != CHIP_SIZE {
-        voice.say_form(
-            b": refused by number 7: the chip record has # bytes, and it must have 40\n",
-            &[chip.len() as u64],
-        );
+        let n = chip.len();
+        voice.say_line(format_args!(
+            ": refused by number 7: the chip record has {n} bytes, and it must have 40\n"
+        ));
         return;
     }
     voice.say(
@@ -79,17 +79,16 @@ impl Noted {
         let event = one_more(self.events);
         let start = start_of(self.events);
         if event_kinds::fault_in(r) == 4 {
-            voice.say_form(
-                b": event # is refused by number 4: byte #, the kind, is #, and must be 1 to 8\n",
-                &[event, start, r[0] as u64],
-            );
+            let kind = r[0];
+            voice.say_line(format_args!(
+                ": event {event} is refused by number 4: byte {start}, the kind, is {kind}, and must be 1 to 8\n"
+            ));
             return;
         }
-        let at = first_from(r, DATA_PLACE + r[LENGTH_PLACE] as usize);
-        voice.say_form(
-            b": event # is refused by number 5: byte # must be zero\n",
-            &[event, start + at as u64],
-        );
+        let place = start + first_from(r, DATA_PLACE + r[LENGTH_PLACE] as usize) as u64;
+        voice.say_line(format_args!(
+            ": event {event} is refused by number 5: byte {place} must be zero\n"
+        ));
     }
 
     // One record more. It is looked at again only where playing it refused it.
@@ -125,24 +124,28 @@ impl Noted {
             self.note_good(count);
             return;
         }
-        for (r, line) in records.chunks_exact(RECORD_SIZE).zip(lines.chunks_exact(LINE_SIZE)) {
+        for (r, line) in records
+            .chunks_exact(RECORD_SIZE)
+            .zip(lines.chunks_exact(LINE_SIZE))
+        {
             self.note(voice, r, !is_good(line));
         }
     }
 
     // The session's end, with so many bytes behind the last whole record.
-    pub fn end(self, voice: Voice, left: usize) -> Status {
+    pub fn end(self, voice: Voice, left: usize) -> Status
+        ensures { (result ≡ Status.Done) ↔ ((left ≡ 0) × (self.refused ≡ 0)) }
+    {
         if LINES < self.refused {
-            voice.say_form(
-                b": and # more events are refused; their lines have the number\n",
-                &[self.refused - LINES],
-            );
+            let more = self.refused - LINES;
+            voice.say_line(format_args!(
+                ": and {more} more events are refused; their lines have the number\n"
+            ));
         }
         if left != 0 {
-            voice.say_form(
-                b": the last # bytes are no whole record of 260, and no event\n",
-                &[left as u64],
-            );
+            voice.say_line(format_args!(
+                ": the last {left} bytes are no whole record of 260, and no event\n"
+            ));
         }
         Status::of(left != 0 || self.refused != 0)
     }
