@@ -1,110 +1,40 @@
 // What a program was started on.
-ghost use Rattle.std.specs.Prelude.{◌≡◌, ◌+◌, ◌≤◌, length};
-ghost use Rattle.io_edge.specs.Counts.{IsPrefixLen};
+ghost use Rattle.std.specs.Prelude.{◌≡◌, ◌+◌, ◌≤◌, cond, length, take, IfSome};
+ghost use Rattle.io_edge.specs.Counts.{IsPrefixLen, count_in};
 
 use crate::files::open_read;
-use crate::text::{say, say_failed};
+use crate::status::Failure;
+use crate::voice::Voice;
+use crate::{ReadError, read_labelled};
+use print_forms::Line;
 use std::env::{Env, FillError};
-use std::fs::File;
+use std::fs::{File, Files};
 use std::io;
 use std::io::{Read, Stdin};
 
 // Room for a label: a program's name, a colon, a blank, and a file's name of up to 4,095 bytes.
-pub fn label_buffer() -> [u8; 4128]
-    ensures { 4128 ≡ length result }
-{
-    [0; 4128]
-}
+const LABEL_SIZE: usize = 4128;
 
-// Whether two words are the same.
-fn same(a: &[u8], b: &[u8]) -> bool {
-    if a.len() != b.len() {
-        return false;
-    }
-    let mut i: usize = 0;
-    while i < a.len() {
-        if a[i] != b[i] {
-            return false;
-        }
-        i += 1;
-    }
-    true
-}
+pub type Label = Line<LABEL_SIZE>;
 
-fn word_buffer() -> [u8; 16]
-    ensures { 16 ≡ length result }
-{
-    [0; 16]
-}
-
-// Argument i at the front of the room, and how long it is: 0 where there is none, or no room for it.
-pub fn argument(rt: HostRuntime, i: usize, room: &mut [u8]) -> usize
-    ensures { IsPrefixLen result room.new }
-{
-    match rt.arg(i, room) {
-        Ok(n) => n,
-        Err(_) => 0,
-    }
-}
-
-// Whether there is an argument i.
-fn has_arg(rt: HostRuntime, i: usize) -> bool {
-    let mut word = word_buffer();
-    match rt.arg(i, &mut word) {
-        Ok(_) => true,
-        Err(FillError::TooLong) => true,
-        Err(FillError::NotPresent) => false,
-    }
-}
-
-// Whether argument i is this option. A longer one is no word here.
-pub fn is_arg(rt: HostRuntime, i: usize, option: &[u8]) -> bool {
-    let mut word = word_buffer();
-    let n = argument(rt, i, &mut word);
-    same(&word[..n], option)
-}
-
-// The argument behind this one, where this one is an option that was given.
-pub fn behind(i: usize, given: bool) -> usize
-    requires { i ≤ 8 }
-    ensures { result ≤ i + 1 }
-{
-    if given {
-        return i + 1;
-    }
-    i
-}
+// An option is shorter. A longer argument is none.
+const WORD_SIZE: usize = 16;
 
 // Whether a name ends in .txt.
 pub fn is_text_name(name: &[u8]) -> bool {
-    let n = name.len();
-    if n < 4 {
-        return false;
-    }
-    same(&name[n - 4..], b".txt")
+    name.ends_with(b".txt")
 }
 
-// What is read: nothing, where that was said already; standard input; or a file.
+// What is read: standard input, or a file.
 #[derive(Drop)]
 pub enum Stream {
-    Shut,
     Standard(Stdin),
     Named(File),
-}
-
-impl Stream {
-    pub fn is_shut(&self) -> bool {
-        match self {
-            Stream::Shut => true,
-            _ => false,
-        }
-    }
 }
 
 impl Read for Stream {
     fn read(&mut self, buf: &mut [u8]) -> io::Result<usize> {
         match self {
-            Stream::Shut => Ok(0),
             Stream::Standard(stdin) => stdin.read(buf),
             Stream::Named(file) => file.read(buf),
         }
@@ -112,98 +42,123 @@ impl Read for Stream {
 }
 
 // The file of a name.
-pub fn open_stream(rt: HostRuntime, name: &[u8]) -> io::Result<Stream> {
+pub fn open_stream<R: Files<File = File>>(rt: &R, name: &[u8]) -> io::Result<Stream> {
     let file = open_read(rt, name)?;
     Ok(Stream::Named(file))
 }
 
-// What a program reads, how long its label is, and whether its name is that of a text.
+// What a program reads, who says what is wrong with that, and whether its name is that of a text.
 #[derive(Drop)]
-pub struct Source {
+pub struct Source<'a> {
     pub from: Stream,
-    pub labelled: usize,
+    pub voice: Voice<'a>,
     pub is_text: bool,
 }
 
-// A source that cannot be read, which was said.
-fn shut(labelled: usize) -> Source
-    ensures { result.labelled ≡ labelled }
-{
-    Source {
-        from: Stream::Shut,
-        labelled: labelled,
-        is_text: false,
+impl Source<'_> {
+    // Reads as `read_labelled`.
+    pub fn read(&mut self, room: &mut [u8]) -> Result<usize, ReadError>
+        ensures { IsPrefixLen (count_in result) room.new }
+    {
+        read_labelled(self.voice, &mut self.from, room)
     }
 }
 
 // The system's number of the reason that a name is too long.
 const ENAMETOOLONG: i32 = 36;
 
-// A name that the label has no room for.
-fn say_long(rt: HostRuntime, label: &mut [u8], filled: usize) -> Source
-    requires { filled ≤ length label.old }
-    ensures { IsPrefixLen result.labelled label.new }
-{
-    let end = print_forms::put_text(label, filled, b"FILE");
-    let why = io::Error::from_raw_os_error(ENAMETOOLONG);
-    say_failed(rt, &label[..end], Some(why));
-    shut(end)
+// The arguments from the next on, and the program's voice, as `replay: `.
+#[derive(Drop)]
+pub struct Arguments<'a, R> {
+    pub rt: &'a R,
+    pub voice: Voice<'a>,
+    pub next: usize,
 }
 
-// The file of a label's name, which begins behind what was filled.
-fn open_label(rt: HostRuntime, label: &[u8], filled: usize) -> Source
-    requires { filled ≤ length label.now }
-    ensures { result.labelled ≡ length label.now }
-{
-    let name = &label[filled..];
-    match open_stream(rt, name) {
-        Ok(from) => Source {
-            from: from,
-            labelled: label.len(),
-            is_text: is_text_name(name),
-        },
-        Err(e) => {
-            say_failed(rt, label, Some(e));
-            shut(label.len())
+impl<'a, R: Env + Files<File = File>> Arguments<'a, R> {
+    pub fn new(rt: &'a R, voice: Voice<'a>) -> Arguments<'a, R>
+        ensures { result.next ≡ 1 }
+    {
+        Arguments { rt, voice, next: 1 }
+    }
+
+    // The next argument at the front of the room, and how long it is: none where there is none, or no room for it.
+    pub fn copy_next(&self, room: &mut [u8]) -> Option<usize>
+        ensures { IfSome result (λ n. IsPrefixLen n room.new) }
+    {
+        self.rt.arg(self.next, room).ok()
+    }
+
+    // Whether the next argument is this option. Then the one behind it is next.
+    pub fn take_option(&mut self, option: &[u8]) -> bool
+        requires { self.old.next ≤ 8 }
+        ensures { self.new.next ≡ cond result (self.old.next + 1) self.old.next }
+    {
+        let mut word = [0u8; WORD_SIZE];
+        let given = match self.copy_next(&mut word) {
+            Some(n) => &word[..n] == option,
+            None => false,
+        };
+        if given {
+            self.next += 1;
+        }
+        given
+    }
+
+    // Whether there is an argument i.
+    fn has(&self, i: usize) -> bool {
+        let mut word = [0u8; WORD_SIZE];
+        match self.rt.arg(i, &mut word) {
+            Ok(_) | Err(FillError::TooLong) => true,
+            Err(FillError::NotPresent) => false,
         }
     }
-}
 
-// Opens the file that argument i names, behind the program's name in the label. An empty name is one that there is no
-// file of.
-fn open_named(rt: HostRuntime, label: &mut [u8], filled: usize, i: usize) -> Source
-    requires { filled ≤ length label.old }
-    ensures { IsPrefixLen result.labelled label.new }
-{
-    match rt.arg(i, &mut label[filled..]) {
-        Ok(n) => open_label(rt, &label[..filled + n], filled),
-        Err(_) => say_long(rt, label, filled),
+    // What the next argument names, or standard input where there is none; nothing may follow. The label is the
+    // program's and the file's name.
+    pub fn open_last<'b>(&self, stdin: Stdin, label: &'b mut Label) -> Result<Source<'b>, Failure>
+        requires { self.now.next ≤ 9 }
+    {
+        if self.has(self.next + 1) {
+            self.voice.say(b"one file, or none for standard input\n");
+            return Err(Failure::NotDone);
+        }
+        label.clear();
+        label.put_text(self.voice.label);
+        if self.has(self.next) {
+            return self.open_named(label);
+        }
+        label.put_text(b"standard input");
+        Ok(Source {
+            from: Stream::Standard(stdin),
+            voice: self.voice.labelled(label.as_bytes()),
+            is_text: false,
+        })
     }
-}
 
-// What argument i names, or standard input where there is none. `program` is the label's start, as `replay: `.
-fn open_source(rt: HostRuntime, program: &[u8], i: usize, label: &mut [u8]) -> Source
-    ensures { IsPrefixLen result.labelled label.new }
-{
-    let filled = print_forms::put_text(label, 0, program);
-    if has_arg(rt, i) {
-        return open_named(rt, label, filled, i);
+    // The file that the next argument names. An empty name is one that there is no file of; one that the label has no
+    // room for is too long.
+    fn open_named<'b>(&self, label: &'b mut Label) -> Result<Source<'b>, Failure> {
+        let mut room = [0u8; LABEL_SIZE];
+        let Some(n) = self.copy_next(&mut room[..label.room()]) else {
+            label.put_text(b"FILE");
+            let why = io::Error::from_raw_os_error(ENAMETOOLONG);
+            self.voice.labelled(label.as_bytes()).say_failed(why);
+            return Err(Failure::NotDone);
+        };
+        let name = &room[..n];
+        label.put_text(name);
+        let voice = self.voice.labelled(label.as_bytes());
+        match open_stream(self.rt, name) {
+            Ok(from) => Ok(Source {
+                from,
+                voice,
+                is_text: is_text_name(name),
+            }),
+            Err(e) => {
+                voice.say_failed(e);
+                Err(Failure::NotDone)
+            }
+        }
     }
-    Source {
-        from: Stream::Standard(rt.stdin()),
-        labelled: print_forms::put_text(label, filled, b"standard input"),
-        is_text: false,
-    }
-}
-
-// The same, where nothing follows argument i.
-pub fn open_last(rt: HostRuntime, program: &[u8], i: usize, label: &mut [u8]) -> Source
-    requires { i ≤ 9 }
-    ensures { IsPrefixLen result.labelled label.new }
-{
-    if has_arg(rt, i + 1) {
-        say(rt, program, b"one file, or none for standard input\n");
-        return shut(0);
-    }
-    open_source(rt, program, i, label)
 }

@@ -2,16 +2,17 @@
 // and how `trace` begins.
 #![tactic(auto)]
 
-ghost use Rattle.std.specs.Prelude.{◌≡◌, ◌+◌, ◌*◌, ◌/◌, ◌≤◌, ◌<◌, length};
+ghost use Rattle.std.specs.Prelude.{◌≡◌, ◌+◌, ◌*◌, ◌/◌, ◌≤◌, ◌<◌, length, IfOk};
 ghost use Rattle.lists.specs.Bytes.{zeros};
 ghost use Rattle.model.specs.Stored.{area_size};
 ghost use Rattle.theorem_sound.specs.Keeps.{Good};
 ghost use Rattle.register_entries.specs.Entries.{entered_of};
 ghost use Rattle.io_playing.specs.Blocks.{Plays, PlaysBlock};
+ghost use Rattle.io_playing.specs.Endings.{status_after};
 
-use io_edge::Stream;
+use io_edge::{Failure, Page, Source, Status, Voice};
 use io_remarks::Noted;
-use model::Card;
+use model::{AREA_SIZE, CHIP_SIZE, Card, LINE_SIZE, RECORD_SIZE};
 use register_entries::Entered;
 
 // 126 records.
@@ -22,118 +23,70 @@ const LINES_SIZE: usize = 32760;
 
 const BLOCK_LINES: usize = 3276;
 
-// The buffers, each by what its user asks of it.
-pub fn clear_area() -> [u8; 4096]
+pub fn clear_area() -> [u8; AREA_SIZE]
     ensures { (result ≡ zeros area_size) × (4096 ≡ length result) }
 {
-    [0; 4096]
+    [0; AREA_SIZE]
 }
 
-fn block_buffer() -> [u8; 32760]
-    ensures { 32760 ≡ length result }
-{
-    [0; 32760]
-}
-
-fn line_buffer() -> [u8; 32760]
-    ensures { 32760 ≡ length result }
-{
-    [0; 32760]
-}
-
-// Whether a chip record was read and passes. What is wrong with it is said.
-fn status_at(rt: HostRuntime, label: &[u8], chip: &[u8], failed: bool, number: u8) -> u8 {
-    if failed {
-        return io_edge::NOT_DONE;
-    }
-    if number != 0 {
-        io_remarks::note_chip(rt, label, chip);
-        return io_edge::REFUSED;
-    }
-    io_edge::DONE
-}
-
-// The fresh card of a session, and the status, which is other than DONE where there is no session to play.
+// The fresh card of a session, and whether there is a session to play: Done, or Refused, or why none could be read.
 #[derive(Clone, Copy)]
 pub struct Begun {
     pub card: Card,
-    pub status: u8,
+    pub status: Result<Status, Failure>,
 }
 
-pub fn begin(rt: HostRuntime, label: &[u8], from: &mut Stream) -> Begun
+// A chip record that was read. What is wrong with it is said.
+fn begin_with(voice: Voice, chip: &[u8]) -> Begun
     ensures { Good area_size result.card (zeros area_size) }
 {
-    let mut chip = [0u8; 40];
-    let got = io_edge::read_labelled(rt, label, from, &mut chip);
-    let n = got.count;
-    let made = card_fresh::fresh(&chip[..n]);
-    let card = made.card;
+    let made = card_fresh::fresh(chip);
+    let refused = made.number != 0;
+    if refused {
+        io_remarks::note_chip(voice, chip);
+    }
     Begun {
-        card: card,
-        status: status_at(rt, label, &chip[..n], got.failed, made.number),
+        card: made.card,
+        status: Ok(Status::of(refused)),
+    }
+}
+
+pub fn begin(source: &mut Source) -> Begun
+    ensures { Good area_size result.card (zeros area_size) }
+{
+    let mut chip = [0u8; CHIP_SIZE];
+    match source.read(&mut chip) {
+        Ok(n) => begin_with(source.voice, &chip[..n]),
+        Err(e) => Begun {
+            card: card_fresh::fresh(&chip[..e.count]).card,
+            status: Err(e.into()),
+        },
     }
 }
 
 // How far a session is played: the card, the number of events by its last five digits, what was noted of them, how
-// many bytes of lines are gathered, and how many of the session are behind the last whole record; whether to go on,
-// and DONE, or the status where a read or a write failed.
+// many bytes of lines are gathered, and how many of the session are behind the last whole record.
 #[derive(Clone, Copy)]
 struct Stand {
-    pub card: Card,
-    pub count: u64,
-    pub noted: Noted,
-    pub gathered: usize,
-    pub left: usize,
-    pub going: bool,
-    pub status: u8,
+    card: Card,
+    count: u64,
+    noted: Noted,
+    gathered: usize,
+    left: usize,
 }
 
-// What was noted so far, how much is gathered, and DONE where all lines went out that were to, else the status.
-#[derive(Clone, Copy)]
-struct Report {
-    pub noted: Noted,
-    pub gathered: usize,
-    pub status: u8,
-}
-
-// Records that were played, with their lines from `at` on: what is refused is said. The lines are printed behind the
-// last block, and where another block's might not fit; not at all where `output`, the label of standard output, is
-// empty.
-fn reported(
-    rt: HostRuntime,
-    label: &[u8],
-    output: &[u8],
-    records: &[u8],
-    lines: &[u8],
-    at: usize,
-    before: Noted,
-) -> Report
-    requires { (at + length records.now / 260 * 26 ≤ length lines.now) × (length lines.now ≡ 32760) }
-    ensures { result.gathered + 3276 ≤ 32760 }
+// The lines so far go out behind the last block, and where another block's might not fit; not at all where there is
+// no page. How many bytes of them stay.
+fn gathered(page: Option<Page>, lines: &[u8], is_last: bool) -> Result<usize, Failure>
+    ensures { IfOk result (λ n. n + BLOCK_LINES ≤ LINES_SIZE) }
 {
-    let noted = io_remarks::note_all(rt, label, records, &lines[at..], before);
-    if output.len() == 0 {
-        return Report {
-            noted: noted,
-            gathered: 0,
-            status: io_edge::DONE,
-        };
-    }
-    let end = at + records.len() / model::RECORD_SIZE * model::LINE_SIZE;
-    if end <= LINES_SIZE - BLOCK_LINES {
-        if records.len() == BLOCK_SIZE {
-            return Report {
-                noted: noted,
-                gathered: end,
-                status: io_edge::DONE,
-            };
+    if let Some(page) = page {
+        if !is_last && lines.len() <= LINES_SIZE - BLOCK_LINES {
+            return Ok(lines.len());
         }
+        page.print(lines)?;
     }
-    Report {
-        noted: noted,
-        gathered: 0,
-        status: io_edge::print(rt, output, &lines[..end]),
-    }
+    Ok(0)
 }
 
 // Whole records are played, and their lines written from `at` on.
@@ -154,151 +107,122 @@ fn enter_at(
     register_entries::enter_all(c, area, records, count, &mut lines[at..])
 }
 
-// The whole records of the next block. A torn last record is not an event.
+// The whole records of the next block, and how many bytes it has. A torn last record is not an event.
 fn play_block(
-    rt: HostRuntime,
-    s: Stand,
+    s: &mut Stand,
+    source: &mut Source,
+    page: Option<Page>,
     area: &mut [u8],
     block: &mut [u8],
     lines: &mut [u8],
-    from: &mut Stream,
-    label: &[u8],
-    output: &[u8],
-) -> Stand
-    requires { Good area_size s.card area.old × (s.count < 100000) × (length block.old ≡ 32760)
-        × (length lines.old ≡ 32760) × (s.gathered + 3276 ≤ 32760) }
-    ensures good { Good area_size result.card area.new × (result.count < 100000) × (result.gathered + 3276 ≤ 32760) }
-    ensures plays { PlaysBlock s.count s.card area.old block.new result.card area.new result.count }
+) -> Result<usize, Failure>
+    requires { Good area_size s.old.card area.old × (s.old.count < 100000) × (length block.old ≡ BLOCK_SIZE)
+        × (length lines.old ≡ LINES_SIZE) × (s.old.gathered + BLOCK_LINES ≤ LINES_SIZE) }
+    ensures good { Good area_size s.new.card area.new × (s.new.count < 100000)
+        × (s.new.gathered + BLOCK_LINES ≤ LINES_SIZE) }
+    ensures plays { PlaysBlock s.old.count s.old.card area.old block.new s.new.card area.new s.new.count }
 {
-    let card = s.card;
-    let noted = s.noted;
-    let got = io_edge::read_labelled(rt, label, from, block);
-    if got.failed {
-        return Stand {
-            card: card,
-            count: s.count,
-            noted: noted,
-            gathered: 0,
-            left: 0,
-            going: false,
-            status: io_edge::NOT_DONE,
-        };
-    }
-    let records = &block[..got.count];
+    let n = source.read(block)?;
+    let records = &block[..n];
     let at = s.gathered;
-    let last = enter_at(card, area, records, s.count, lines, at);
-    let report = reported(rt, label, output, records, lines, at, noted);
-    let after = last.card;
-    let so_far = report.noted;
-    Stand {
-        card: after,
-        count: last.count,
-        noted: so_far,
-        gathered: report.gathered,
-        left: got.count % model::RECORD_SIZE,
-        going: got.count == BLOCK_SIZE && report.status == io_edge::DONE,
-        status: report.status,
-    }
+    let entered = enter_at(s.card, area, records, s.count, lines, at);
+    s.card = entered.card;
+    s.count = entered.count;
+    s.left = n % RECORD_SIZE;
+    s.noted.note_all(source.voice, records, &lines[at..]);
+    let end = at + n / RECORD_SIZE * LINE_SIZE;
+    s.gathered = gathered(page, &lines[..end], n < BLOCK_SIZE)?;
+    Ok(n)
 }
 
 // Block after block. The loop has more turns than a run uses up, since nothing says that an input ends.
 fn play_all(
-    rt: HostRuntime,
-    c: Card,
+    s: &mut Stand,
+    source: &mut Source,
+    page: Option<Page>,
     area: &mut [u8],
-    from: &mut Stream,
-    label: &[u8],
-    output: &[u8],
-) -> Stand
-    requires { Good area_size c area.old }
-    ensures { Good area_size result.card area.new }
+) -> Result<(), Failure>
+    requires { Good area_size s.old.card area.old × (s.old.count < 100000)
+        × (s.old.gathered + BLOCK_LINES ≤ LINES_SIZE) }
+    ensures { Good area_size s.new.card area.new }
 {
-    let mut block = block_buffer();
-    let mut lines = line_buffer();
-    let noted = Noted {
-        events: 0,
-        refused: 0,
-    };
-    let mut s = Stand {
-        card: c,
-        count: 0,
-        noted: noted,
-        gathered: 0,
-        left: 0,
-        going: true,
-        status: io_edge::DONE,
-    };
+    let mut block = [0u8; BLOCK_SIZE];
+    let mut lines = [0u8; LINES_SIZE];
     for _ in 0..u64::MAX {
-        s = play_block(rt, s, area, &mut block, &mut lines, from, label, output);
-        if !s.going {
-            return s;
+        if play_block(s, source, page, area, &mut block, &mut lines)? < BLOCK_SIZE {
+            return Ok(());
         }
     }
-    s
+    Err(Failure::NotDone)
 }
 
-// How playing a session ended: the card, how many events there were, and their number by its last five digits;
-// whether it came to its end, and the status.
+// How a session that could be read ended: its chip record is refused, and nothing was played; or all of it was.
+#[derive(Clone, Copy, Debug, PartialEq, Eq)]
+pub enum Ending {
+    NoSession,
+    Played(Status),
+}
+
+impl From<Ending> for Status {
+    ghost from_gives = { λ ending status. status ≡ status_after ending };
+
+    fn from(ending: Ending) -> Status {
+        match ending {
+            Ending::NoSession => Status::Refused,
+            Ending::Played(status) => status,
+        }
+    }
+}
+
+// The card that playing a session left, how many events there were, their number by its last five digits, and how it
+// ended.
 #[derive(Clone, Copy)]
 pub struct Outcome {
     pub card: Card,
     pub events: u64,
     pub count: u64,
-    pub ended: bool,
-    pub status: u8,
+    pub ending: Result<Ending, Failure>,
 }
 
-// The session's end is told, where it was reached.
-fn status_after(rt: HostRuntime, label: &[u8], s: Stand) -> u8 {
-    if s.status != io_edge::DONE {
-        return s.status;
-    }
-    if s.going {
-        return io_edge::NOT_DONE;
-    }
-    let noted = s.noted;
-    io_edge::status_of(io_remarks::note_end(rt, label, noted, s.left))
-}
-
-fn outcome_of(rt: HostRuntime, label: &[u8], s: Stand) -> Outcome
-    ensures { result.card ≡ s.card }
-{
-    let card = s.card;
-    let noted = s.noted;
-    let ended = !s.going && s.status == io_edge::DONE;
-    Outcome {
-        card: card,
-        events: noted.events,
-        count: s.count,
-        ended: ended,
-        status: status_after(rt, label, s),
-    }
-}
-
-// Plays a session in a clear area. Its lines are printed as they come, unless `output`, the label of standard output,
-// is empty.
-pub fn play(
-    rt: HostRuntime,
-    label: &[u8],
-    from: &mut Stream,
+// A session that begins is played, and its end is told.
+fn play_on(
+    s: &mut Stand,
+    begun: Result<Status, Failure>,
+    source: &mut Source,
+    page: Option<Page>,
     area: &mut [u8],
-    output: &[u8],
-) -> Outcome
+) -> Result<Ending, Failure>
+    requires { Good area_size s.old.card area.old × (s.old.count < 100000)
+        × (s.old.gathered + BLOCK_LINES ≤ LINES_SIZE) }
+    ensures { Good area_size s.new.card area.new }
+{
+    if begun? == Status::Refused {
+        return Ok(Ending::NoSession);
+    }
+    play_all(s, source, page, area)?;
+    Ok(Ending::Played(s.noted.end(source.voice, s.left)))
+}
+
+// Plays a session in a clear area. Its lines are printed as they come, where there is a page for them.
+pub fn play(source: &mut Source, page: Option<Page>, area: &mut [u8]) -> Outcome
     requires { area.old ≡ zeros area_size }
     ensures { Good area_size result.card area.new }
 {
-    let begun = begin(rt, label, from);
-    let card = begun.card;
-    if begun.status != io_edge::DONE {
-        return Outcome {
-            card: card,
-            events: 0,
-            count: 0,
-            ended: false,
-            status: begun.status,
-        };
+    let begun = begin(source);
+    let mut s = Stand {
+        card: begun.card,
+        count: 0,
+        noted: Noted::default(),
+        gathered: 0,
+        left: 0,
+    };
+    let ending = play_on(&mut s, begun.status, source, page, area);
+    Outcome {
+        card: s.card,
+        events: s.noted.events,
+        count: s.count,
+        ending,
     }
-    outcome_of(rt, label, play_all(rt, card, area, from, label, output))
 }
 
 // A byte of the area times its place, counted from 1.
@@ -306,7 +230,7 @@ fn weight(i: usize, b: u8) -> usize
     requires { i < 4096 }
     ensures { result ≤ 1044480 }
 {
-    (i + 1) * memory::wide(b)
+    (i + 1) * b as usize
 }
 
 // The area's place sum. It stays under 2^32.
@@ -315,10 +239,8 @@ pub fn place_sum(area: &[u8]) -> usize
     ensures { result ≤ 4096 * 1044480 }
 {
     let mut sum: usize = 0;
-    let mut i: usize = 0;
-    while i < area.len() {
-        sum += weight(i, area[i]);
-        i += 1;
+    for (i, b) in area.iter().enumerate() {
+        sum += weight(i, *b);
     }
     sum
 }

@@ -1,16 +1,17 @@
 // What the programs that play a session say of it on standard error, as its records go by: a chip record or an event
-// that is refused, and a last record that is not whole. Each line begins with a label, as `replay: FILE`.
+// that is refused, and a last record that is not whole. Each line begins with a voice's label, as `replay: FILE`.
 #![tactic(auto)]
 
-ghost use Rattle.std.specs.Prelude.{◌≡◌, ◌+◌, ◌*◌, ◌/◌, ◌≤◌, length};
+ghost use Rattle.std.specs.Prelude.{◌≡◌, ◌+◌, ◌*◌, ◌/◌, ◌≤◌, ◌↔◌, length};
 
+use io_edge::{Status, Voice};
 use model::{CHIP_SIZE, DATA_PLACE, LINE_SIZE, RECORD_SIZE};
 
 const LENGTH_PLACE: usize = 3;
 
 const NUMBER_PLACE: usize = 10;
 
-const ZERO_DIGIT: u8 = 0x30;
+const ZERO_DIGIT: u8 = b'0';
 
 // So many refused events have a line each; the others are counted.
 const LINES: u64 = 10;
@@ -18,34 +19,22 @@ const LINES: u64 = 10;
 // 2^50. Counts stop here, so that a place in the session is a number: no run comes so far.
 const MOST: u64 = 0x4_0000_0000_0000;
 
-// How many events there were, and how many of them were refused.
-#[derive(Clone, Copy)]
-pub struct Noted {
-    pub events: u64,
-    pub refused: u64,
-}
-
 // A chip record that is refused.
-pub fn note_chip(rt: HostRuntime, label: &[u8], chip: &[u8]) {
+pub fn note_chip(voice: Voice, chip: &[u8]) {
     if chip.len() != CHIP_SIZE {
-        let n = chip.len() as u64;
-        io_edge::say_form(
-            rt,
-            label,
-            b": refused by number 7: the chip record has # bytes, and it must have 40\n",
-            &[n],
-        );
+        let n = chip.len();
+        voice.say_line(format_args!(
+            ": refused by number 7: the chip record has {n} bytes, and it must have 40\n"
+        ));
         return;
     }
-    io_edge::say(
-        rt,
-        label,
+    voice.say(
         b": refused by number 7: the chip record's last three bytes, 37 to 39 counted from 0, must be zero\n",
     );
 }
 
 fn one_more(n: u64) -> u64
-    ensures { result ≤ 0x4000000000000 }
+    ensures { result ≤ MOST }
 {
     if n < MOST {
         return n + 1;
@@ -55,12 +44,9 @@ fn one_more(n: u64) -> u64
 
 // Where the record behind so many events begins in the session.
 fn start_of(events: u64) -> u64
-    ensures { result ≤ 40 + 260 * 0x4000000000000 }
+    ensures { result ≤ 40 + 260 * MOST }
 {
-    if events < MOST {
-        return CHIP_SIZE as u64 + RECORD_SIZE as u64 * events;
-    }
-    CHIP_SIZE as u64 + RECORD_SIZE as u64 * MOST
+    CHIP_SIZE as u64 + RECORD_SIZE as u64 * events.min(MOST)
 }
 
 // The first byte that is not zero, from `at` on.
@@ -68,146 +54,99 @@ fn first_from(r: &[u8], at: usize) -> usize
     requires { at ≤ length r.now }
     ensures { result ≤ length r.now }
 {
-    let mut i = at;
-    while i < r.len() {
-        if r[i] != 0 {
-            return i;
+    let rest = &r[at..];
+    let zeros = rest.iter().position(|b| *b != 0);
+    at + zeros.unwrap_or(rest.len())
+}
+
+// Whether a line's number is none.
+fn is_good(line: &[u8]) -> bool {
+    line.get(NUMBER_PLACE) == Some(&ZERO_DIGIT)
+}
+
+// How many events there were, and how many of them were refused.
+#[derive(Clone, Copy, Default)]
+pub struct Noted {
+    pub events: u64,
+    pub refused: u64,
+}
+
+impl Noted {
+    // Of the event behind these. Only places are said, and a kind: a byte that must be zero could be a key's.
+    fn say_fault(self, voice: Voice, r: &[u8])
+        requires { length r.now ≡ 260 }
+    {
+        let event = one_more(self.events);
+        let start = start_of(self.events);
+        if event_kinds::fault_in(r) == 4 {
+            let kind = r[0];
+            voice.say_line(format_args!(
+                ": event {event} is refused by number 4: byte {start}, the kind, is {kind}, and must be 1 to 8\n"
+            ));
+            return;
         }
-        i += 1;
+        let place = start + first_from(r, DATA_PLACE + r[LENGTH_PLACE] as usize) as u64;
+        voice.say_line(format_args!(
+            ": event {event} is refused by number 5: byte {place} must be zero\n"
+        ));
     }
-    i
-}
 
-// Only places are said, and a kind: a byte that must be zero could be a key's.
-fn say_kind(rt: HostRuntime, label: &[u8], kind: u8, events: u64) {
-    io_edge::say_form(
-        rt,
-        label,
-        b": event # is refused by number 4: byte #, the kind, is #, and must be 1 to 8\n",
-        &[one_more(events), start_of(events), kind as u64],
-    );
-}
-
-fn say_zero(rt: HostRuntime, label: &[u8], at: usize, events: u64)
-    requires { at ≤ 260 }
-{
-    io_edge::say_form(
-        rt,
-        label,
-        b": event # is refused by number 5: byte # must be zero\n",
-        &[one_more(events), start_of(events) + at as u64],
-    );
-}
-
-fn say_fault(rt: HostRuntime, label: &[u8], r: &[u8], number: u8, events: u64)
-    requires { length r.now ≡ 260 }
-{
-    if number == 4 {
-        say_kind(rt, label, r[0], events);
-        return;
-    }
-    let at = first_from(r, DATA_PLACE + memory::wide(r[LENGTH_PLACE]));
-    say_zero(rt, label, at, events);
-}
-
-// One record more. It is looked at again only where playing it refused it.
-pub fn note(rt: HostRuntime, label: &[u8], r: &[u8], refused: bool, noted: Noted) -> Noted
-    requires { length r.now ≡ 260 }
-{
-    if refused {
-        return note_refused(rt, label, r, noted);
-    }
-    Noted {
-        events: one_more(noted.events),
-        refused: noted.refused,
-    }
-}
-
-fn note_refused(rt: HostRuntime, label: &[u8], r: &[u8], noted: Noted) -> Noted
-    requires { length r.now ≡ 260 }
-{
-    if noted.refused < LINES {
-        say_fault(rt, label, r, event_kinds::fault_in(r), noted.events);
-    }
-    Noted {
-        events: one_more(noted.events),
-        refused: one_more(noted.refused),
-    }
-}
-
-// Whether the lines of so many events have no number.
-fn none_refused(lines: &[u8], count: usize) -> bool
-    requires { count * 26 ≤ length lines.now }
-{
-    let mut i: usize = 0;
-    while i < count {
-        if lines[i * LINE_SIZE + NUMBER_PLACE] != ZERO_DIGIT {
-            return false;
+    // One record more. It is looked at again only where playing it refused it.
+    pub fn note(&mut self, voice: Voice, r: &[u8], refused: bool)
+        requires { length r.now ≡ 260 }
+    {
+        if refused {
+            if self.refused < LINES {
+                self.say_fault(voice, r);
+            }
+            self.refused = one_more(self.refused);
         }
-        i += 1;
+        self.events = one_more(self.events);
     }
-    true
-}
 
-// So many events more, none of them refused.
-fn note_good(count: usize, noted: Noted) -> Noted
-    requires { count ≤ 0x100000000000000 }
-{
-    let mut events = MOST;
-    if noted.events < MOST {
-        events = noted.events + count as u64;
+    // So many events more, none of them refused.
+    fn note_good(&mut self, count: usize)
+        requires { count ≤ 0x100000000000000 }
+    {
+        self.events = if self.events < MOST {
+            self.events + count as u64
+        } else {
+            MOST
+        };
     }
-    Noted {
-        events: events,
-        refused: noted.refused,
-    }
-}
 
-// The records of a block one by one, beside the lines that they were given.
-fn note_each(rt: HostRuntime, label: &[u8], records: &[u8], lines: &[u8], mut noted: Noted) -> Noted
-    requires { length records.now / 260 * 26 ≤ length lines.now }
-{
-    let mut i: usize = 0;
-    let k = records.len() / RECORD_SIZE;
-    while i < k {
-        let from = i * RECORD_SIZE;
-        let r = &records[from..from + RECORD_SIZE];
-        let refused = lines[i * LINE_SIZE + NUMBER_PLACE] != ZERO_DIGIT;
-        noted = note(rt, label, r, refused, noted);
-        i += 1;
+    // The records of a block, beside the lines that they were given. A block of which none was refused costs little.
+    pub fn note_all(&mut self, voice: Voice, records: &[u8], lines: &[u8])
+        requires { length records.now / 260 * 26 ≤ length lines.now }
+    {
+        let count = records.len() / RECORD_SIZE;
+        if lines.chunks_exact(LINE_SIZE).take(count).all(is_good) {
+            self.note_good(count);
+            return;
+        }
+        for (r, line) in records
+            .chunks_exact(RECORD_SIZE)
+            .zip(lines.chunks_exact(LINE_SIZE))
+        {
+            self.note(voice, r, !is_good(line));
+        }
     }
-    noted
-}
 
-// The records of a block, beside the lines that they were given. A block of which none was refused costs little.
-pub fn note_all(rt: HostRuntime, label: &[u8], records: &[u8], lines: &[u8], noted: Noted) -> Noted
-    requires { length records.now / 260 * 26 ≤ length lines.now }
-{
-    let k = records.len() / RECORD_SIZE;
-    if none_refused(lines, k) {
-        return note_good(k, noted);
+    // The session's end, with so many bytes behind the last whole record.
+    pub fn end(self, voice: Voice, left: usize) -> Status
+        ensures { (result ≡ Status.Done) ↔ ((left ≡ 0) × (self.refused ≡ 0)) }
+    {
+        if LINES < self.refused {
+            let more = self.refused - LINES;
+            voice.say_line(format_args!(
+                ": and {more} more events are refused; their lines have the number\n"
+            ));
+        }
+        if left != 0 {
+            voice.say_line(format_args!(
+                ": the last {left} bytes are no whole record of 260, and no event\n"
+            ));
+        }
+        Status::of(left != 0 || self.refused != 0)
     }
-    note_each(rt, label, records, lines, noted)
-}
-
-// The session's end, with so many bytes behind the last whole record. Whether anything was refused.
-pub fn note_end(rt: HostRuntime, label: &[u8], noted: Noted, left: usize) -> bool {
-    if LINES < noted.refused {
-        io_edge::say_form(
-            rt,
-            label,
-            b": and # more events are refused; their lines have the number\n",
-            &[noted.refused - LINES],
-        );
-    }
-    if left != 0 {
-        io_edge::say_form(
-            rt,
-            label,
-            b": the last # bytes are no whole record of 260, and no event\n",
-            &[left as u64],
-        );
-        return true;
-    }
-    noted.refused != 0
 }

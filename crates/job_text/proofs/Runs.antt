@@ -1,20 +1,16 @@
 -- Laws of reading: characters and then more characters.
-use Prim.Native.Nat.{ℕ, ◌+◌, ◌≤◌, ◌<◌, min}
-use mathlib.Core.Path.{◌≡◌, refl, sym, ◌∙◌}
+use Prim.Native.Nat.{ℕ, ◌+◌, ◌≤◌, min}
+use mathlib.Core.Path.{◌≡◌, refl, sym, ap, ◌∙◌}
 use mathlib.Core.List.{List, [], ◌∷◌, ◌++◌, append_assoc, append-nil}
 use native.Mathlib.Omega.{arith}
-use native.Mathlib.Numerals.{add-one}
-use lib.ListN.{length, get_or, take, length-append}
-use lib.Seq.{take-suc}
+use lib.ListN.{length, length-append}
 use Rattle.lists.specs.Over.{overwrite, over_none, length_over}
-use Rattle.job_text.specs.declared.Given.{Given}
-use Rattle.job_text.specs.declared.Given.TheVariants.{Nothing, Byte}
+use Rattle.std.specs.Prelude.{Option, None, Some}
 use Rattle.job_text.specs.declared.Place.{Place}
-use Rattle.job_text.specs.declared.Reading.{Reading}
 use Rattle.job_text.specs.declared.Mode.TheVariants.{Between}
 use Rattle.job_text.specs.Places.{place, more, step, byte_of, bytes_in, lines_in}
 use Rattle.job_text.specs.Pairs.{Pair}
-use Rattle.job_text.specs.Text.{place_from, bytes_from, lines_from, place_of, reading, reached}
+use Rattle.job_text.specs.Text.{place_from, bytes_from, lines_from}
 use Rattle.job_text.proofs.Laying.{over_room}
 
 pub place_append : (xs ys : List ℕ) (p : Place) → place_from p (xs ++ ys) ≡ place_from (place_from p xs) ys
@@ -35,9 +31,9 @@ lines_append [] ys p = refl
 lines_append (x ∷ xs) ys p = rw (append_assoc, lines_append xs ys (step p x))
 
 -- each byte has its line
-one_line : (g : Given) (line : ℕ) → length (lines_in g line) ≡ length (bytes_in g)
-one_line Nothing line = refl
-one_line (Byte b) line = refl
+one_line : (g : Option ℕ) (line : ℕ) → length (lines_in g line) ≡ length (bytes_in g)
+one_line None line = refl
+one_line (Some b) line = refl
 
 pub lines_length : (xs : List ℕ) (p : Place) → length (lines_from p xs) ≡ length (bytes_from p xs)
 unfolding bytes_from lines_from
@@ -67,9 +63,6 @@ module _ (p₀ : Place) (n₀ : ℕ) (out₀ lines₀ : List ℕ) where
 
   module _ (same : length lines₀ ≡ length out₀) {xs : List ℕ} {p : Place} {n : ℕ} {out lines : List ℕ}
       (h : Laid p₀ n₀ out₀ lines₀ xs p n out lines) where
-    pub laid_fits : (length lines ≡ length out) × (n ≤ length out)
-    laid_fits = (simp (h.bytes, h.starts, length_over) same, rw (h.count, h.bytes, length_over) (omega arith))
-
     pub laid_then : {ys : List ℕ} {p' : Place} {n' : ℕ} {out' lines' : List ℕ}
         → Laid p n out lines ys p' n' out' lines'
         → Laid p₀ n₀ out₀ lines₀ (xs ++ ys) p' n' out' lines'
@@ -91,13 +84,20 @@ module _ (p₀ : Place) (n₀ : ℕ) (out₀ lines₀ : List ℕ) where
               (over_room ls (lines_from q ys) lines₀ n₀);
         }
 
--- The reading that they leave.
-pub laid_reading : (r : Reading) {out₀ lines₀ xs : List ℕ} {p : Place} {n : ℕ} {out lines : List ℕ}
-    → Laid (place_of r) r.count out₀ lines₀ xs p n out lines → reading p n ≡ reached (length out₀) r xs
-laid_reading r h = rw (h.place, h.count)
+-- What is left of characters, and what those before it leave.
+pub record Before (p₀ : Place) (n₀ : ℕ) (out₀ lines₀ chars rest : List ℕ) (p : Place) (n : ℕ)
+    (out lines : List ℕ) : Type 0 where
+  pub done : List ℕ
+  pub all : chars ≡ done ++ rest
+  pub laid : Laid p₀ n₀ out₀ lines₀ done p n out lines
+
+-- None are before them all.
+pub before_all : {p : Place} {n : ℕ} {out lines chars : List ℕ} → n ≤ length out
+    → Before p n out lines chars chars p n out lines
+before_all {p} {n} {out} {lines} h = record { done = []; all = refl; laid = laid_none p n out lines h }
 
 -- One character, as the code reads it.
-module _ {p p' : Place} {n n' x : ℕ} {out lines out' lines' : List ℕ} {g : Given}
+module _ {p p' : Place} {n n' x : ℕ} {out lines out' lines' : List ℕ} {g : Option ℕ}
     (given : g ≡ byte_of p.mode x) (stepped : p' ≡ step p x)
     (count : n' ≡ min (n + length (bytes_in g)) (length out))
     (bytes : out' ≡ overwrite out n (bytes_in g)) (starts : lines' ≡ overwrite lines n (lines_in g p.line)) where
@@ -111,13 +111,17 @@ module _ {p p' : Place} {n n' x : ℕ} {out lines out' lines' : List ℕ} {g : G
         starts = rw (append-nil, ← given) starts;
       }
 
-  -- A turn of the loop over characters: the one at i is read behind those before it.
-  pub laid_turn : (p₀ : Place) (n₀ : ℕ) (out₀ lines₀ chars : List ℕ) (i : ℕ)
-      → length lines₀ ≡ length out₀ → i < length chars → x ≡ get_or chars i 0
-      → Laid p₀ n₀ out₀ lines₀ (take i chars) p n out lines
-      → Laid p₀ n₀ out₀ lines₀ (take (i + 1) chars) p' n' out' lines'
-  laid_turn p₀ n₀ out₀ lines₀ chars i same h e k =
-      rw (add-one, take-suc chars i 0 h, ← e) (laid_then p₀ n₀ out₀ lines₀ same k laid_one)
+  -- A turn of the loop over characters: the first of the rest is read behind those before it.
+  pub laid_turn : {p₀ : Place} {n₀ : ℕ} {out₀ lines₀ chars rest behind : List ℕ}
+      → length lines₀ ≡ length out₀ → rest ≡ x ∷ behind
+      → Before p₀ n₀ out₀ lines₀ chars rest p n out lines
+      → Before p₀ n₀ out₀ lines₀ chars behind p' n' out' lines'
+  laid_turn {behind = behind} same e b =
+      record {
+        done = b.done ++ x ∷ [];
+        all = b.all ∙ (ap (λ r. b.done ++ r) e ∙ sym (append_assoc b.done (x ∷ []) behind));
+        laid = laid_then _ _ _ _ same b.laid laid_one;
+      }
 
 -- Two digits between pairs, in one turn.
 module _ {p p' : Place} {n n' x y b : ℕ} {out lines out' lines' : List ℕ}
@@ -134,11 +138,15 @@ module _ {p p' : Place} {n n' x y b : ℕ} {out lines out' lines' : List ℕ}
         starts = rw (h.between, h.high, h.low) starts;
       }
 
-  pub laid_two : (p₀ : Place) (n₀ : ℕ) (out₀ lines₀ chars : List ℕ) (i : ℕ)
-      → length lines₀ ≡ length out₀ → i + 1 < length chars → x ≡ get_or chars i 0 → y ≡ get_or chars (i + 1) 0
-      → Laid p₀ n₀ out₀ lines₀ (take i chars) p n out lines
-      → Laid p₀ n₀ out₀ lines₀ (take (i + 1 + 1) chars) p' n' out' lines'
-  laid_two p₀ n₀ out₀ lines₀ chars i same l ex ey k =
-      let h₁ : i < length chars = omega arith in
-      rw (add-one (i + 1), take-suc chars (i + 1) 0 l, ← ey, add-one i, take-suc chars i 0 h₁, ← ex, append_assoc)
-      (laid_then p₀ n₀ out₀ lines₀ same k laid_pair)
+  pub laid_two : {p₀ : Place} {n₀ : ℕ} {out₀ lines₀ chars rest behind tail : List ℕ}
+      → length lines₀ ≡ length out₀ → rest ≡ x ∷ behind → behind ≡ y ∷ tail
+      → Before p₀ n₀ out₀ lines₀ chars rest p n out lines
+      → Before p₀ n₀ out₀ lines₀ chars tail p' n' out' lines'
+  laid_two {tail = tail} same ex ey b =
+      record {
+        done = b.done ++ x ∷ y ∷ [];
+        all =
+            b.all
+            ∙ (ap (λ r. b.done ++ r) (ex ∙ ap (λ r. x ∷ r) ey) ∙ sym (append_assoc b.done (x ∷ y ∷ []) tail));
+        laid = laid_then _ _ _ _ same b.laid laid_pair;
+      }

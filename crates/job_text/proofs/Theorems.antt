@@ -6,10 +6,11 @@ use native.Mathlib.Omega.{arith}
 use lib.ListN.{length, take, drop}
 use lib.Seq.{take-append_seam}
 use Rattle.lists.specs.Over.{over_zero}
+use Rattle.job_text.specs.declared.Fault.{Fault}
 use Rattle.job_text.specs.declared.Mode.TheVariants.{Wrong}
 use Rattle.job_text.specs.declared.Reading.{Reading}
 use Rattle.job_text.specs.Places.{place}
-use Rattle.job_text.specs.Text.{place_from, bytes_from, lines_from, place_of, first, begun, reached}
+use Rattle.job_text.specs.Text.{place_from, bytes_from, lines_from, first, begun, reached}
 use Rattle.job_text.specs.Text.{laid_bytes, laid_lines, ended, fault_of, text_of}
 use Rattle.job_text.proofs.Runs.{Laid, laid_then, lines_length}
 
@@ -19,13 +20,13 @@ within_room room r xs = omega arith
 
 -- Two blocks are read as one: the reading, the bytes and their lines.
 module _ (r : Reading) (xs ys out lines : List ℕ) (same : length lines ≡ length out) where
-  both : Laid (place_of r) r.count out lines (xs ++ ys)
-      (place_from (place_from (place_of r) xs) ys)
+  both : Laid r.place r.count out lines (xs ++ ys)
+      (place_from (place_from r.place xs) ys)
       (reached (length (laid_bytes r xs out)) (reached (length out) r xs) ys).count
       (laid_bytes (reached (length out) r xs) ys (laid_bytes r xs out))
       (laid_lines (reached (length out) r xs) ys (laid_lines r xs lines))
   both =
-      laid_then (place_of r) r.count out lines same
+      laid_then r.place r.count out lines same
       (record { place = refl; count = refl; bytes = refl; starts = refl })
       (record { place = refl; count = refl; bytes = refl; starts = refl })
 
@@ -61,7 +62,7 @@ module _ (xs out lines : List ℕ) (same : length lines ≡ length out)
   whole_fault = refl
 
 -- Behind a fault nothing is looked at.
-module _ (kind line column : ℕ) where
+module _ (kind : Fault) (line column : ℕ) where
   pub fault_stays : (xs : List ℕ) → place_from (place (Wrong kind) line column) xs ≡ place (Wrong kind) line column
   unfolding place_from
   fault_stays [] = refl

@@ -1,12 +1,10 @@
 -- Two digits between pairs, told by a table of the digits' values.
-use Rattle.std.specs.Prelude.{ℕ, zero, suc, ◌+◌, ◌*◌, ◌%◌, ◌<◌, ◌≡◌, refl, List, [], ◌∷◌, get_or}
+use Rattle.std.specs.Prelude.{ℕ, zero, suc, ◌+◌, ◌*◌, ◌%◌, ◌<◌, ◌≡◌, refl, List, [], ◌∷◌, get_or, Option, None, Some}
 use Rattle.std.proofs.Common.{add-zero, add-suc, suc-add, arith}
 use Rattle.job_text.specs.declared.Sort.{Sort}
 use Rattle.job_text.specs.declared.Sort.TheVariants.{Digit, Blank, Break, Hash, Other}
 use Rattle.job_text.specs.declared.Mode.{Mode}
 use Rattle.job_text.specs.declared.Mode.TheVariants.{Between}
-use Rattle.job_text.specs.declared.Given.{Given}
-use Rattle.job_text.specs.declared.Given.TheVariants.{Nothing, Byte}
 use Rattle.job_text.specs.Characters.{sort_of}
 
 -- A digit's value, and 0x10 for what is none.
@@ -46,6 +44,6 @@ pub record Pair (mode : Mode) (x y b : ℕ) : Type 0 where
   pub byte : b ≡ value_of x % 16 * 16 + value_of y % 16
 
 -- So it is where a byte is given.
-abbrev pub PairIn : Mode → ℕ → ℕ → Given → Type 0
-PairIn mode x y Nothing = Unit
-PairIn mode x y (Byte b) = Pair mode x y b
+abbrev pub PairIn : Mode → ℕ → ℕ → Option ℕ → Type 0
+PairIn mode x y None = Unit
+PairIn mode x y (Some b) = Pair mode x y b

@@ -1,11 +1,10 @@
 -- Where a character brings the reader of a job text, and the byte that it completes.
-use Rattle.std.specs.Prelude.{ℕ, ◌+◌, ◌*◌, ◌%◌, min, cond, List, [], ◌∷◌, eqb}
+use Rattle.std.specs.Prelude.{ℕ, ◌+◌, ◌*◌, ◌%◌, min, cond, List, [], ◌∷◌, eqb, Option, None, Some}
 use Rattle.job_text.specs.declared.Sort.{Sort}
 use Rattle.job_text.specs.declared.Sort.TheVariants.{Digit, Blank, Break, Hash, Other}
 use Rattle.job_text.specs.declared.Mode.{Mode}
 use Rattle.job_text.specs.declared.Mode.TheVariants.{Mark, Between, Half, Comment, Wrong}
-use Rattle.job_text.specs.declared.Given.{Given}
-use Rattle.job_text.specs.declared.Given.TheVariants.{Nothing, Byte}
+use Rattle.job_text.specs.declared.Fault.TheVariants.{NoDigit, HalfByte}
 use Rattle.job_text.specs.declared.Place.{Place}
 use Rattle.job_text.specs.Characters.{sort_of}
 
@@ -16,12 +15,12 @@ place m line column = record { mode = m; line = line; column = column }
 abbrev pub more : ℕ → ℕ
 more n = min (n + 1) 0xFFFFFFFF
 
--- Kind 1: no hexadecimal digit where one may stand. Kind 2: half a byte.
+-- No hexadecimal digit where one may stand, and half a byte.
 abbrev pub no_digit : Mode
-no_digit = Wrong 1
+no_digit = Wrong NoDigit
 
 abbrev pub half_byte : Mode
-half_byte = Wrong 2
+half_byte = Wrong HalfByte
 
 -- Between pairs. A digit's own place is kept until its pair is whole.
 abbrev pub from_between : ℕ → ℕ → Sort → Place
@@ -62,26 +61,26 @@ abbrev pub step : Place → ℕ → Place
 step p x = step_in p.mode p.line p.column x
 
 -- The byte of two digits, the first the high one.
-abbrev pub pair_of : ℕ → Sort → Given
-pair_of high (Digit low) = Byte (high % 16 * 16 + low % 16)
-pair_of high Blank = Nothing
-pair_of high Break = Nothing
-pair_of high Hash = Nothing
-pair_of high Other = Nothing
+abbrev pub pair_of : ℕ → Sort → Option ℕ
+pair_of high (Digit low) = Some (high % 16 * 16 + low % 16)
+pair_of high Blank = None
+pair_of high Break = None
+pair_of high Hash = None
+pair_of high Other = None
 
 -- The byte that a character completes.
-abbrev pub byte_of : Mode → ℕ → Given
-byte_of (Mark n) x = Nothing
-byte_of Between x = Nothing
+abbrev pub byte_of : Mode → ℕ → Option ℕ
+byte_of (Mark n) x = None
+byte_of Between x = None
 byte_of (Half high) x = pair_of high (sort_of x)
-byte_of Comment x = Nothing
-byte_of (Wrong kind) x = Nothing
+byte_of Comment x = None
+byte_of (Wrong kind) x = None
 
 -- As lists of none or one: the byte, and the line of its digits, which stand side by side.
-abbrev pub bytes_in : Given → List ℕ
-bytes_in Nothing = []
-bytes_in (Byte b) = b ∷ []
+abbrev pub bytes_in : Option ℕ → List ℕ
+bytes_in None = []
+bytes_in (Some b) = b ∷ []
 
-abbrev pub lines_in : Given → ℕ → List ℕ
-lines_in Nothing line = []
-lines_in (Byte b) line = line ∷ []
+abbrev pub lines_in : Option ℕ → ℕ → List ℕ
+lines_in None line = []
+lines_in (Some b) line = line ∷ []

@@ -1,8 +1,9 @@
 -- What a job text gives: its bytes, the line of each, and its first fault.
-use Rattle.std.specs.Prelude.{ℕ, ◌+◌, min, cond, List, [], ◌∷◌, ◌++◌, eqb, length}
+use Rattle.std.specs.Prelude.{ℕ, ◌+◌, min, cond, List, [], ◌∷◌, ◌++◌, eqb, length, Option, None, Some}
 use Rattle.lists.specs.Over.{overwrite}
 use Rattle.job_text.specs.declared.Mode.{Mode}
 use Rattle.job_text.specs.declared.Mode.TheVariants.{Mark, Between, Half, Comment, Wrong}
+use Rattle.job_text.specs.declared.Fault.{Fault}
 use Rattle.job_text.specs.declared.Place.{Place}
 use Rattle.job_text.specs.declared.Reading.{Reading}
 use Rattle.job_text.specs.Places.{place, no_digit, half_byte, step, byte_of, bytes_in, lines_in}
@@ -21,10 +22,7 @@ lines_from p [] = []
 lines_from p (x ∷ xs) = lines_in (byte_of p.mode x) p.line ++ lines_from (step p x) xs
 
 abbrev pub reading : Place → ℕ → Reading
-reading p n = record { mode = p.mode; line = p.line; column = p.column; count = n }
-
-abbrev pub place_of : Reading → Place
-place_of r = place r.mode r.line r.column
+reading p n = record { place = p; count = n }
 
 -- A text begins at line 1 and column 1, perhaps with a mark.
 abbrev pub first : Place
@@ -35,14 +33,14 @@ begun = reading first 0
 
 -- What a reading becomes by characters, where there is room for so many bytes in all.
 abbrev pub reached : ℕ → Reading → List ℕ → Reading
-reached room r xs = reading (place_from (place_of r) xs) (min (r.count + length (bytes_from (place_of r) xs)) room)
+reached room r xs = reading (place_from r.place xs) (min (r.count + length (bytes_from r.place xs)) room)
 
 -- What the lent memory has then: the bytes and their lines over it, from the reading's count on.
 abbrev pub laid_bytes : Reading → List ℕ → List ℕ → List ℕ
-laid_bytes r xs out = overwrite out r.count (bytes_from (place_of r) xs)
+laid_bytes r xs out = overwrite out r.count (bytes_from r.place xs)
 
 abbrev pub laid_lines : Reading → List ℕ → List ℕ → List ℕ
-laid_lines r xs lines = overwrite lines r.count (lines_from (place_of r) xs)
+laid_lines r xs lines = overwrite lines r.count (lines_from r.place xs)
 
 -- The text's end: a mark that is torn, or half a byte, is the fault there.
 abbrev pub end_in : Mode → Mode
@@ -53,27 +51,30 @@ end_in Comment = Comment
 end_in (Wrong kind) = Wrong kind
 
 abbrev pub ended : Reading → Reading
-ended r = record { mode = end_in r.mode; line = r.line; column = r.column; count = r.count }
+ended r = reading (place (end_in r.place.mode) r.place.line r.place.column) r.count
 
--- A whole text. A fault is told by kind, line and column, never by what stands there.
-pub data Fault : Type 0 where
-  none : Fault
-  fault : ℕ → ℕ → ℕ → Fault
+-- A fault is told by kind, line and column, never by what stands there.
+pub record Told : Type 0 where
+  pub kind : Fault
+  pub line : ℕ
+  pub column : ℕ
 
-abbrev pub fault_in : Mode → ℕ → ℕ → Fault
-fault_in (Mark n) line column = none
-fault_in Between line column = none
-fault_in (Half high) line column = none
-fault_in Comment line column = none
-fault_in (Wrong kind) line column = fault kind line column
+abbrev pub fault_in : Mode → ℕ → ℕ → Option Told
+fault_in (Mark n) line column = None
+fault_in Between line column = None
+fault_in (Half high) line column = None
+fault_in Comment line column = None
+fault_in (Wrong kind) line column = Some (record { kind = kind; line = line; column = column })
 
-abbrev pub fault_of : Reading → Fault
-fault_of r = fault_in r.mode r.line r.column
+abbrev pub fault_of : Reading → Option Told
+fault_of r = fault_in r.place.mode r.place.line r.place.column
+
+-- A whole text.
 
 pub record Text : Type 0 where
   pub bytes : List ℕ
   pub lines : List ℕ
-  pub fault : Fault
+  pub fault : Option Told
 
 abbrev pub text_of : List ℕ → Text
 text_of xs =

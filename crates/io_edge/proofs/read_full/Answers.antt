@@ -23,7 +23,7 @@ slice_range-put_mid a k n xs ys within fits =
 
 pub loop-preserved : goal.loop-preserved
 loop-preserved g c =
-    let from = c.loop.at in
+    let from = c.loop.count in
     let room = length c.loop.room - from in
     let within = c.loop.invariant.1 in
     elim c.match-read.branch [
@@ -32,14 +32,14 @@ loop-preserved g c =
           let part = slice_range-put_mid from room n c.loop.room c.read.new.buf within w.in-Ok.ensures.bound.0 in
           let joined = take_split from (from + n) c.loop.room (put_mid from room c.loop.room c.read.new.buf)
           (omega arith) (take-put_mid_below _ _ _ _ _ (le_refl _) within) in
-          rw w.at-is (
+          rw w.count-is (
             search rules,
             search rules,
             subst (Consumes _ _) (ap (λ l. take from c.loop.room ++ l) (sym part) ∙ joined)
                 (Consumes-trans _ _ _ _ _ c.loop.invariant.2 w.in-Ok.ensures.bytes.0),
           )
       | in-Err+else-not-is_again w ↦
-          rw w.at-is (
+          rw w.count-is (
             search rules,
             search rules,
             subst (Consumes _ _) (sym (take-put_mid_below _ _ _ _ _ (le_refl _) within))

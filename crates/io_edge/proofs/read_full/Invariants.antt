@@ -5,5 +5,5 @@ use Rattle.io_edge.proofs.read_full.Given as goal
 
 abbrev pub invariant-loop : goal.invariant-loop
 invariant-loop g l =
-    (length l.room ≡ length l.initial.room) × (l.at ≤ length l.room)
-    × Consumes (g.R.Read.remaining l.initial.from) (g.R.Read.remaining l.from) (take l.at l.room)
+    (length l.room ≡ length l.initial.room) × (l.count ≤ length l.room)
+    × Consumes (g.R.Read.remaining l.initial.from) (g.R.Read.remaining l.from) (take l.count l.room)

@@ -1,7 +1,6 @@
--- `io_playing::begin`: a fresh card is good with a clear area, whatever was read of the chip record (`fresh_keeps`).
+-- `io_playing::begin`: where the read failed, the card is a fresh one all the same (`fresh_keeps`).
 use Rattle.theorem_sound.proofs.Sessions.{fresh_keeps}
-use borrow.Author.Rules.{rules}
 use Rattle.io_playing.proofs.begin.Goals as goal
 
-pub returns : goal.returns
-returns c = rw c.fresh-made.ensures (fresh_keeps _)
+pub returns-in-Err : goal.returns-in-Err
+returns-in-Err c = rw c.fresh.ensures (fresh_keeps _)

@@ -4,7 +4,7 @@ use Rattle.model.specs.Session.{records_in}
 use Rattle.register_entries.specs.Entries.{entries}
 use Rattle.io_playing.proofs.play_block.Goals as goal
 
-pub returns-then-got-clause-plays : goal.returns-then-got-clause-plays
+pub returns-in_err-n-clause-plays : goal.returns-in_err-n-clause-plays
 unfolding entries records_in
-returns-then-got-clause-plays c =
+returns-in_err-n-clause-plays c =
     record { n = 0; within = omega arith; played = record { leaves = refl; keeps = refl; counts = refl } }

@@ -1,7 +1,5 @@
 -- `io_playing::weight`: a place of up to 4096 times a byte of up to 255 is at most 1044480 (`most`).
-use Prim.Native.Nat.{ℕ, ◌+◌, ◌*◌, ◌≤◌, ◌<◌}
-use native.Mathlib.Omega.{arith}
-use borrow.Author.Rules.{rules}
+use Rattle.std.proofs.Common.{ℕ, ◌+◌, ◌*◌, ◌≤◌, ◌<◌, arith, rules}
 use native.Mathlib.Nat.{mul-le-mul}
 use Rattle.io_playing.proofs.weight.Goals as goal
 
@@ -12,9 +10,5 @@ most i b p q =
     let k : b ≤ 255 = omega arith in
     mul-le-mul h k
 
-pub overflow_mul-result : goal.overflow_mul-result
-overflow_mul-result c = let h = most c.args.i c.wide.result c.requires c.wide.ensures.1 in
-    omega (arith, h)
-
 pub returns : goal.returns
-returns c = most c.args.i c.wide.result c.requires c.wide.ensures.1
+returns c = most c.args.i c.args.b c.requires (search rules)

@@ -9,14 +9,14 @@ use Rattle.job_text.proofs.lay.Goals as goal
 pub returns-then-out-n : goal.returns-then-out-n
 returns-then-out-n c =
     let a = c.args in
-    rw c.in-Byte.is (
+    rw c.in-Some.is (
       omega arith,
       sym (over_past _ a.out.now a.n (omega arith)),
       sym (over_past _ a.lines.now a.n (omega arith)),
     )
 
-pub returns-in-Nothing : goal.returns-in-Nothing
-returns-in-Nothing c = rw c.in-Nothing.is (omega arith, sym (over_none _ _), sym (over_none _ _))
+pub returns-in-None : goal.returns-in-None
+returns-in-None c = rw c.in-None.is (omega arith, sym (over_none _ _), sym (over_none _ _))
 
 pub returns-else-out-n : goal.returns-else-out-n
-returns-else-out-n c = rw c.in-Byte.is (omega arith, sym (over_one _ _ _), sym (over_one _ _ _))
+returns-else-out-n c = rw c.in-Some.is (omega arith, sym (over_one _ _ _), sym (over_one _ _ _))

@@ -1,9 +1,0 @@
--- `io_edge::source::same`: i stays within a, and so within b, which is as long.
-use Rattle.std.proofs.Common.{length, ◌-◌, ◌≤◌}
-use Rattle.io_edge.proofs.source.same.Given as goal
-
-abbrev pub invariant-loop-i : goal.invariant-loop-i
-invariant-loop-i l = l.i ≤ length l.a
-
-abbrev pub decreases-loop-i : goal.decreases-loop-i
-decreases-loop-i l = length l.a - l.i
