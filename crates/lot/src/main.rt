@@ -241,7 +241,7 @@ impl<'a, R: Files<File = File>> Lot<'a, R> {
 
     // Name after name; what is gathered goes out before more names are waited for. The loop has more turns than a run
     // uses up, since nothing says that an input ends.
-    fn run(&mut self, mut names: Names, page: Page) -> Result<(), Failure> {
+    fn run(&mut self, names: &mut Names, page: Page) -> Result<(), Failure> {
         let mut room = [0u8; JOB_SIZE];
         let mut lines = [0u32; JOB_SIZE];
         for _ in 0..u64::MAX {
@@ -278,5 +278,6 @@ fn main(rt: HostRuntime) {
     };
     let separator = if options.zero { 0 } else { b'\n' };
     let mut lot = Lot::new(&rt, voice, &folder[..n], options);
-    let _ = lot.run(Names::new(source, separator), page);
+    let mut names = Names::new(source, separator);
+    let _ = lot.run(&mut names, page);
 }
