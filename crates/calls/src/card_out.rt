@@ -1,119 +1,46 @@
 // A card's bytes, as they are stored.
-ghost use Rattle.std.specs.Prelude.{◌≡◌, ◌+◌, ◌≤◌, [], ◌∷◌, length, if◌then◌else◌};
+ghost use Rattle.std.specs.Prelude.{◌≡◌, ◌+◌, ◌≤◌, length};
 ghost use Rattle.calls.specs.Stores.{Puts, chip_bytes, life_bytes, span_bytes, open_bytes, running_bytes};
 ghost use Rattle.calls.specs.Stores.{descriptor_bytes, files_bytes, secret_bytes, secrets_bytes, facts_bytes};
 ghost use Rattle.calls.specs.Stores.{loading_bytes, card_bytes};
 
-use crate::numbers::{put_eight, put_four, put_two};
+use crate::bytes::put;
 use crate::stored::{
     CAPACITY, CHALLENGE, COUNTER, FILE_COUNT, FILES, GP, HELD, INTERNAL, LAST, NAME, NAME_LENGTH,
     OPEN_COUNT, OPEN_KIND, OPEN_MISSING, OPEN_NONE, OPEN_RECORD, OPEN_TABLE, OPEN_TAG, REFERENCE,
-    ROWS, SECRET_COUNT, SECRET_LENGTH, SECRET_SIZE, SECRETS, SELECTED, SERIAL, STARTUP,
-    TRACEABILITY,
+    ROWS, SECRET_LENGTH, SECRET_SIZE, SECRETS, SELECTED, SERIAL, STARTUP, TRACEABILITY,
 };
-use model::{
-    Card, Chip, DESCRIPTOR_SIZE, Descriptor, Life, Loading, Open, Running, Secret, TABLE_LIMIT,
-};
-
-// A byte, and bytes of an array, from a place on.
-fn put_byte(b: &mut [u8], at: usize, x: u8)
-    requires { at + 1 ≤ length b.old }
-    ensures { Puts b.old at (x ∷ []) 1 b.new }
-{
-    b[at] = x;
-}
-
-// Four bytes.
-fn put_array4(b: &mut [u8], at: usize, x: [u8; 4])
-    requires { at + 4 ≤ length b.old }
-    ensures { Puts b.old at x 4 b.new }
-{
-    memory::put_bytes(b, at, &x);
-}
-
-// Seven bytes.
-fn put_array7(b: &mut [u8], at: usize, x: [u8; 7])
-    requires { at + 7 ≤ length b.old }
-    ensures { Puts b.old at x 7 b.new }
-{
-    memory::put_bytes(b, at, &x);
-}
-
-// Eight bytes.
-fn put_array8(b: &mut [u8], at: usize, x: [u8; 8])
-    requires { at + 8 ≤ length b.old }
-    ensures { Puts b.old at x 8 b.new }
-{
-    memory::put_bytes(b, at, &x);
-}
-
-// Sixteen bytes.
-fn put_array16(b: &mut [u8], at: usize, x: [u8; 16])
-    requires { at + 16 ≤ length b.old }
-    ensures { Puts b.old at x 16 b.new }
-{
-    memory::put_bytes(b, at, &x);
-}
-
-// Eighteen bytes.
-fn put_array18(b: &mut [u8], at: usize, x: [u8; 18])
-    requires { at + 18 ≤ length b.old }
-    ensures { Puts b.old at x 18 b.new }
-{
-    memory::put_bytes(b, at, &x);
-}
-
-// Sixty-four bytes.
-fn put_array64(b: &mut [u8], at: usize, x: [u8; 64])
-    requires { at + 64 ≤ length b.old }
-    ensures { Puts b.old at x 64 b.new }
-{
-    memory::put_bytes(b, at, &x);
-}
+use model::{Card, Chip, DESCRIPTOR_SIZE, Descriptor, Life, Loading, Open, Running, Secret};
 
 // The parts of a card, each at its own place of the card's bytes.
 fn put_chip(b: &mut [u8], chip: Chip)
     requires { length b.old ≡ 1050 }
     ensures { Puts b.old 0 (chip_bytes chip) 37 b.new }
 {
-    let reference = chip.reference;
-    let challenge = chip.challenge;
-    let traceability = chip.traceability;
-    put_array4(b, REFERENCE, reference);
-    put_array16(b, CHALLENGE, challenge);
-    put_array16(b, TRACEABILITY, traceability);
-    put_byte(b, CAPACITY, chip.capacity);
+    put(b, REFERENCE, chip.reference);
+    put(b, CHALLENGE, chip.challenge);
+    put(b, TRACEABILITY, chip.traceability);
+    put(b, CAPACITY, [chip.capacity]);
 }
 
-// Selected is 1 or 0.
-fn flag(selected: bool) -> u8
-    ensures { result ≡ (if selected then 1 else 0) }
-{
-    if selected {
-        return 1;
-    }
-    0
-}
-
-// What the life cycle changes.
+// What the life cycle changes. Selected is 1 or 0.
 fn put_life(b: &mut [u8], life: Life)
     requires { length b.old ≡ 1050 }
     ensures { Puts b.old 37 (life_bytes life) 26 b.new }
 {
-    let name = life.name;
-    put_byte(b, GP, life.gp);
-    put_byte(b, SELECTED, flag(life.selected));
-    put_array16(b, NAME, name);
-    put_eight(b, NAME_LENGTH, life.namelen as u64);
+    put(b, GP, [life.gp]);
+    put(b, SELECTED, [life.selected as u8]);
+    put(b, NAME, life.name);
+    put(b, NAME_LENGTH, (life.namelen as u64).to_be_bytes());
 }
 
 // An open value: its byte, its tag, how many bytes are there and how many are missing.
-#[derive(Drop)]
+#[derive(Clone, Copy)]
 struct Span {
-    pub kind: u8,
-    pub tag: u16,
-    pub count: usize,
-    pub missing: usize,
+    kind: u8,
+    tag: u16,
+    count: usize,
+    missing: usize,
 }
 
 // Where no value is open all of it is zero, and '3100' has no tag here.
@@ -131,7 +58,7 @@ fn span_of(pending: Open) -> Span
             kind: OPEN_TABLE,
             tag: 0,
             count: held,
-            missing: missing,
+            missing,
         },
         Open::Record {
             tag,
@@ -139,9 +66,9 @@ fn span_of(pending: Open) -> Span
             missing,
         } => Span {
             kind: OPEN_RECORD,
-            tag: tag,
+            tag,
             count: written,
-            missing: missing,
+            missing,
         },
     }
 }
@@ -152,10 +79,10 @@ fn put_span(b: &mut [u8], s: Span)
     ensures { Puts b.old 68 (span_bytes s.kind s.tag s.count s.missing) 19
         b.new }
 {
-    put_byte(b, OPEN_KIND, s.kind);
-    put_two(b, OPEN_TAG, s.tag);
-    put_eight(b, OPEN_COUNT, s.count as u64);
-    put_eight(b, OPEN_MISSING, s.missing as u64);
+    put(b, OPEN_KIND, [s.kind]);
+    put(b, OPEN_TAG, s.tag.to_be_bytes());
+    put(b, OPEN_COUNT, (s.count as u64).to_be_bytes());
+    put(b, OPEN_MISSING, (s.missing as u64).to_be_bytes());
 }
 
 // How far the loading is.
@@ -163,11 +90,10 @@ fn put_running(b: &mut [u8], p: Running)
     requires { length b.old ≡ 1050 }
     ensures { Puts b.old 63 (running_bytes p) 24 b.new }
 {
-    let pending = p.pending;
-    put_byte(b, INTERNAL, p.internal);
-    put_two(b, ROWS, p.rows);
-    put_two(b, LAST, p.last);
-    put_span(b, span_of(pending));
+    put(b, INTERNAL, [p.internal]);
+    put(b, ROWS, p.rows.to_be_bytes());
+    put(b, LAST, p.last.to_be_bytes());
+    put_span(b, span_of(p.pending));
 }
 
 // A descriptor as document 01 stores it.
@@ -175,15 +101,15 @@ fn put_descriptor(b: &mut [u8], at: usize, d: Descriptor)
     requires { at + 18 ≤ length b.old }
     ensures { Puts b.old at (descriptor_bytes d) 18 b.new }
 {
-    let ac = d.ac;
-    let nkey = d.nkey;
-    let front = [d.sfi, d.filetype, d.eftype, d.recsize, d.numrec];
-    let back = [d.refsfi, d.refnum, d.status];
-    put_two(b, at, d.lid);
-    memory::put_bytes(b, at + 2, &front);
-    put_array4(b, at + 7, ac);
-    put_array4(b, at + 11, nkey);
-    memory::put_bytes(b, at + 15, &back);
+    put(b, at, d.lid.to_be_bytes());
+    put(
+        b,
+        at + 2,
+        [d.sfi, d.filetype, d.eftype, d.recsize, d.numrec],
+    );
+    put(b, at + 7, d.ac);
+    put(b, at + 11, d.nkey);
+    put(b, at + 15, [d.refsfi, d.refnum, d.status]);
 }
 
 // The 31 descriptors.
@@ -191,11 +117,8 @@ fn put_files(b: &mut [u8], files: [Descriptor; 31])
     requires { length b.old ≡ 1050 }
     ensures { Puts b.old 105 (files_bytes files) 558 b.new }
 {
-    let mut i: usize = 0;
-    while i < TABLE_LIMIT {
-        let d = files[i];
-        put_descriptor(b, FILES + DESCRIPTOR_SIZE * i, d);
-        i += 1;
+    for (i, d) in files.iter().enumerate() {
+        put_descriptor(b, FILES + DESCRIPTOR_SIZE * i, *d);
     }
 }
 
@@ -204,9 +127,8 @@ fn put_secret(b: &mut [u8], at: usize, s: Secret)
     requires { at + 72 ≤ length b.old }
     ensures { Puts b.old at (secret_bytes s) 72 b.new }
 {
-    let bytes = s.bytes;
-    put_array64(b, at, bytes);
-    put_eight(b, at + SECRET_LENGTH, s.len as u64);
+    put(b, at, s.bytes);
+    put(b, at + SECRET_LENGTH, (s.len as u64).to_be_bytes());
 }
 
 // The secrets of '3800' and '4101' to '4104'.
@@ -214,11 +136,8 @@ fn put_secrets(b: &mut [u8], secrets: [Secret; 5])
     requires { length b.old ≡ 1050 }
     ensures { Puts b.old 690 (secrets_bytes secrets) 360 b.new }
 {
-    let mut i: usize = 0;
-    while i < SECRET_COUNT {
-        let s = secrets[i];
-        put_secret(b, SECRETS + SECRET_SIZE * i, s);
-        i += 1;
+    for (i, s) in secrets.iter().enumerate() {
+        put_secret(b, SECRETS + SECRET_SIZE * i, *s);
     }
 }
 
@@ -227,12 +146,10 @@ fn put_facts(b: &mut [u8], l: Loading)
     requires { length b.old ≡ 1050 }
     ensures { Puts b.old 663 (facts_bytes l) 27 b.new }
 {
-    let serial = l.serial;
-    let startup = l.startup;
-    put_eight(b, FILE_COUNT, l.count as u64);
-    put_array8(b, SERIAL, serial);
-    put_array7(b, STARTUP, startup);
-    put_four(b, COUNTER, l.counter);
+    put(b, FILE_COUNT, (l.count as u64).to_be_bytes());
+    put(b, SERIAL, l.serial);
+    put(b, STARTUP, l.startup);
+    put(b, COUNTER, l.counter.to_be_bytes());
 }
 
 // What groupings change.
@@ -240,15 +157,11 @@ fn put_loading(b: &mut [u8], l: Loading)
     requires { length b.old ≡ 1050 }
     ensures { Puts b.old 63 (loading_bytes l) 987 b.new }
 {
-    let running = l.running;
-    let held = l.held;
-    let files = l.files;
-    let secrets = l.secrets;
-    put_running(b, running);
-    put_array18(b, HELD, held);
-    put_files(b, files);
+    put_running(b, l.running);
+    put(b, HELD, l.held);
+    put_files(b, l.files);
     put_facts(b, l);
-    put_secrets(b, secrets);
+    put_secrets(b, l.secrets);
 }
 
 // A card, sound or not: all of its bytes.
@@ -256,10 +169,7 @@ pub fn put_card(b: &mut [u8], c: Card)
     requires { length b.old ≡ 1050 }
     ensures { b.new ≡ card_bytes c }
 {
-    let chip = c.chip;
-    let life = c.life;
-    let loading = c.loading;
-    put_chip(b, chip);
-    put_life(b, life);
-    put_loading(b, loading);
+    put_chip(b, c.chip);
+    put_life(b, c.life);
+    put_loading(b, c.loading);
 }

@@ -3,7 +3,7 @@
 ghost use Rattle.std.specs.Prelude.{◌≡◌, ◌+◌, ◌*◌, ◌≤◌, length};
 ghost use Rattle.io_edge.specs.Counts.{IsPrefixLen};
 
-use crate::numbers::two_at;
+use crate::bytes::array;
 use io_edge::Stream;
 
 // No fault; the input ended within the call; memory is longer than may be; there is no such call; a read failed, or a
@@ -116,7 +116,7 @@ fn read_words(words: &mut [u16], bytes: &[u8], n: usize)
 {
     let mut i: usize = 0;
     while i < n {
-        words[i] = two_at(bytes, 2 * i);
+        words[i] = u16::from_be_bytes(array(bytes, 2 * i));
         i += 1;
     }
 }

@@ -4,8 +4,8 @@ ghost use Rattle.std.specs.Prelude.{◌≡◌, ◌+◌, ◌*◌, ◌<◌, ◌≤
 ghost use Rattle.print_forms.specs.Room.{Behind};
 ghost use Rattle.calls.specs.Sums.{place_sum};
 
+use crate::bytes::put;
 use crate::card_out::put_card;
-use crate::numbers::put_two;
 use model::{Card, Made, Played, Ran, Shown, Written};
 use order_reader::Found;
 
@@ -56,7 +56,7 @@ fn store_words(bytes: &mut [u8], words: &[u16])
 {
     let mut i: usize = 0;
     while i < words.len() {
-        put_two(bytes, 2 * i, words[i]);
+        put(bytes, 2 * i, words[i].to_be_bytes());
         i += 1;
     }
 }

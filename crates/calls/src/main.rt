@@ -2,12 +2,12 @@
 // standard output. The tests compare it character by character with the second program's.
 #![tactic(auto)]
 
+mod bytes;
 mod card_in;
 mod card_out;
 mod input;
 mod lines;
 mod making;
-mod numbers;
 mod stored;
 
 ghost use Rattle.std.specs.Prelude.{◌≡◌, ◌+◌, ◌≤◌, length};

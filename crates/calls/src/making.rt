@@ -6,7 +6,6 @@ ghost use Rattle.print_forms.specs.Room.{Behind};
 use crate::card_in::card_in;
 use crate::input::{NO_FAULT, UNKNOWN, memory_buffer, take, take_memory, take_words};
 use crate::lines::{put_count, put_made, put_played, put_pulled, put_ran, put_shown, put_written};
-use crate::numbers::{eight_at, two_at};
 use io_edge::Stream;
 use model::Card;
 
@@ -168,7 +167,7 @@ fn make_count(
     if found != NO_FAULT {
         return at;
     }
-    put_count(out, at, face::count(two_at(&rows, 0)))
+    put_count(out, at, face::count(u16::from_be_bytes(rows)))
 }
 
 // The fresh card of a chip record.
@@ -256,7 +255,7 @@ fn make_pull(
     if found != NO_FAULT {
         return at;
     }
-    pull_on(&order[..n], eight_at(&place, 0) as usize, out, at)
+    pull_on(&order[..n], u64::from_be_bytes(place) as usize, out, at)
 }
 
 // The calls on a card.

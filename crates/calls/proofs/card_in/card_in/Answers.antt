@@ -4,4 +4,4 @@ use Rattle.calls.proofs.card_in.card_in.Goals as goal
 
 pub returns : goal.returns
 unfolding card_from
-returns c = simp (c.chip_in-chip.ensures, c.life_in-life.ensures, c.loading_in-loading.ensures)
+returns c = simp (c.chip_in.ensures, c.life_in.ensures, c.loading_in.ensures)

@@ -4,9 +4,4 @@ use Rattle.calls.proofs.card_in.chip_in.Goals as goal
 
 pub returns : goal.returns
 unfolding chip_of
-returns c =
-    simp (
-      c.array4-reference.ensures,
-      c.array16-challenge.ensures,
-      c.array16-traceability.ensures,
-    )
+returns c = simp (c.array.ensures, c.array-2.ensures, c.array-3.ensures)

@@ -5,7 +5,7 @@ use Rattle.calls.proofs.card_in.files_in.Goals as goal
 
 pub loop-i-init : goal.loop-i-init
 unfolding files_from
-loop-i-init c = (search rules, search rules, refl)
+loop-i-init c = (search rules, refl)
 
 pub loop-i-preserved : goal.loop-i-preserved
 unfolding files_from
@@ -13,12 +13,11 @@ loop-i-preserved c =
     let l = c.loop-i in
     let h : l.i ≤ 30 = search rules in (
       search rules,
-      search rules,
-      rw (add-one, take-suc-set l.files l.i _ (omega arith), l.invariant.2, c.descriptor_in-d.ensures),
+      rw (add-one, take-suc-set l.files l.i _ (omega arith), l.invariant.1, c.descriptor_in.ensures),
     )
 
 pub returns : goal.returns
 returns c =
     let l = c.loop-i in
     let e : l.i ≡ 31 = search rules in
-    sym (take_all 31 l.files (search rules)) ∙ (rw e at l.invariant.2)
+    sym (take_all 31 l.files (search rules)) ∙ (rw e at l.invariant.1)

@@ -1,12 +1,7 @@
 -- `calls::files_in`: after i turns the first i descriptors are those of `files_from`; at the end all 31 are.
-use Rattle.std.proofs.Common.{◌≡◌, ◌-◌, ◌≤◌, length, take}
+use Rattle.std.proofs.Common.{◌≡◌, length, take}
 use Rattle.calls.specs.Cards.{files_from}
 use Rattle.calls.proofs.card_in.files_in.Given as goal
 
 abbrev pub invariant-loop-i : goal.invariant-loop-i
-invariant-loop-i l =
-    (l.i ≤ 31) × (length l.files ≡ 31) × (take l.i l.files ≡ files_from l.i l.b)
-
-abbrev pub decreases-loop-i : goal.decreases-loop-i
-decreases-loop-i l =
-    31 - l.i
+invariant-loop-i l = (length l.files ≡ 31) × (take l.i l.files ≡ files_from l.i l.b)

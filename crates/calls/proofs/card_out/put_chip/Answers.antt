@@ -5,11 +5,4 @@ use Rattle.calls.proofs.card_out.put_chip.Goals as goal
 
 pub returns : goal.returns
 returns c =
-    let four = c in
-    let three = four in
-    let two = three in
-    let one = two in
-    puts_then one.put_array4.ensures
-    (puts_then two.put_array16.ensures
-    (puts_then three.put_array16-2.ensures
-    four.put_byte.ensures refl) refl) refl
+    puts_then c.put.ensures (puts_then c.put-2.ensures (puts_then c.put-3.ensures c.put-4.ensures refl) refl) refl

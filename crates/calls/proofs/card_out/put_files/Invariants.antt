@@ -1,14 +1,10 @@
 -- `calls::put_files`: after i turns the first i descriptors are laid, 18 bytes each (`puts_next`).
-use Rattle.std.proofs.Common.{◌≡◌, ◌-◌, ◌*◌, ◌≤◌, length, take}
+use Rattle.std.proofs.Common.{◌≡◌, ◌*◌, length, take}
 use Rattle.lists.specs.Over.{overwrite}
 use Rattle.calls.specs.Stores.{files_bytes}
 use Rattle.calls.proofs.card_out.put_files.Given as goal
 
 abbrev pub invariant-loop-i : goal.invariant-loop-i
 invariant-loop-i l =
-    (l.i ≤ 31) × (length l.b ≡ length l.initial.b) × (l.b ≡ overwrite l.initial.b 105 (files_bytes (take l.i l.files)))
-    × (length (files_bytes (take l.i l.files)) ≡ 18 * l.i)
-
-abbrev pub decreases-loop-i : goal.decreases-loop-i
-decreases-loop-i l =
-    31 - l.i
+    (length l.b ≡ length l.initial.b) × (l.b ≡ overwrite l.initial.b 105 (files_bytes (take l.i l.d-items)))
+    × (length (files_bytes (take l.i l.d-items)) ≡ 18 * l.i)

@@ -11,7 +11,7 @@ returns c =
     let two = three in
     let one = two in
     puts_then one.put_running.ensures
-    (puts_then two.put_array18.ensures
+    (puts_then two.put.ensures
     (puts_then three.put_files.ensures
     (puts_then four.put_facts.ensures
     five.put_secrets.ensures refl) refl) refl) refl

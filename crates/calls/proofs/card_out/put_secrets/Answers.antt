@@ -7,7 +7,7 @@ use Rattle.calls.proofs.card_out.put_secrets.Goals as goal
 
 pub loop-i-init : goal.loop-i-init
 unfolding secrets_bytes
-loop-i-init c = (search rules, search rules, sym (over_none _ _), refl)
+loop-i-init c = (search rules, sym (over_none _ _), refl)
 
 pub loop-i-preserved : goal.loop-i-preserved
 loop-i-preserved c =
@@ -16,8 +16,8 @@ loop-i-preserved c =
     let s = d.args.secrets in
     let h : length s ≡ 5 = search rules in
     let r = puts_next secret_bytes secrets_bytes secrets_more 690 72 s l.i _ (omega arith)
-    (record { laid = l.invariant.2; long = l.invariant.3 }) d.put_secret.ensures in
-    (search rules, search rules, r.laid, omega (arith, r.long))
+    (record { laid = l.invariant.1; long = l.invariant.2 }) d.put_secret.ensures in
+    (search rules, r.laid, omega (arith, r.long))
 
 pub returns : goal.returns
 returns c =
@@ -26,4 +26,4 @@ returns c =
     let e : l.i ≡ 5 = search rules in
     let h : length s ≡ 5 = search rules in
     let t : take l.i s ≡ s = rw e (take_all 5 s (omega arith)) in
-    record { laid = rw t at l.invariant.2; long = omega (arith, rw t at l.invariant.3) }
+    record { laid = rw t at l.invariant.1; long = omega (arith, rw t at l.invariant.2) }

@@ -1,14 +1,10 @@
 -- `calls::put_secrets`: after i turns the first i secrets are laid, 72 bytes each (`puts_next`).
-use Rattle.std.proofs.Common.{◌≡◌, ◌-◌, ◌*◌, ◌≤◌, length, take}
+use Rattle.std.proofs.Common.{◌≡◌, ◌*◌, length, take}
 use Rattle.lists.specs.Over.{overwrite}
 use Rattle.calls.specs.Stores.{secrets_bytes}
 use Rattle.calls.proofs.card_out.put_secrets.Given as goal
 
 abbrev pub invariant-loop-i : goal.invariant-loop-i
 invariant-loop-i l =
-    (l.i ≤ 5) × (length l.b ≡ length l.initial.b) × (l.b ≡ overwrite l.initial.b 690 (secrets_bytes (take l.i l.secrets)))
-    × (length (secrets_bytes (take l.i l.secrets)) ≡ 72 * l.i)
-
-abbrev pub decreases-loop-i : goal.decreases-loop-i
-decreases-loop-i l =
-    5 - l.i
+    (length l.b ≡ length l.initial.b) × (l.b ≡ overwrite l.initial.b 690 (secrets_bytes (take l.i l.s-items)))
+    × (length (secrets_bytes (take l.i l.s-items)) ≡ 72 * l.i)

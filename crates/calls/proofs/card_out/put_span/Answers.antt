@@ -1,15 +1,12 @@
 -- `calls::put_span`: each run ends where the next begins (`puts_then`).
-use Rattle.std.proofs.Common.{refl}
-use Rattle.calls.proofs.Runs.{puts_then}
+use Rattle.std.proofs.Common.{refl, ◌∙◌, arith, rules}
+use Rattle.calls.proofs.Runs.{puts_then, puts_as}
+use Rattle.calls.proofs.Numbers.{two_out, eight_out}
 use Rattle.calls.proofs.card_out.put_span.Goals as goal
 
 pub returns : goal.returns
 returns c =
-    let four = c in
-    let three = four in
-    let two = three in
-    let one = two in
-    puts_then one.put_byte.ensures
-    (puts_then (record { laid = two.put_two.ensures; long = refl })
-    (puts_then (record { laid = three.put_eight.ensures; long = refl })
-    (record { laid = four.put_eight-2.ensures; long = refl }) refl) refl) refl
+    puts_then c.put.ensures
+    (puts_then (puts_as c.put-2.ensures (c.to_be_bytes.ensures ∙ two_out _ (search rules)))
+    (puts_then (puts_as c.put-3.ensures (c.to_be_bytes-2.ensures ∙ eight_out _ (search rules)))
+    (puts_as c.put-4.ensures (c.to_be_bytes-3.ensures ∙ eight_out _ (search rules))) refl) refl) refl
