@@ -2,57 +2,48 @@
 // INSTALL '0C', SELECT, and the writer's records. A refusal writes one line to standard error alone.
 #![tactic(auto)]
 
-ghost use Rattle.std.specs.Prelude.{◌≡◌, length};
+use io_edge::{Arguments, Failure, Label, Page, Source, Status, Voice};
+use io_intake::{JOB_SIZE, Job, RECORDS_SIZE};
+use model::CHIP_SIZE;
 
-use io_edge::Stream;
+// A chip record and the longest session of a complete order.
+const SESSION_SIZE: usize = CHIP_SIZE + RECORDS_SIZE;
 
-// The chip record, and the longest session of a complete order: 47 records.
-fn job_room() -> [u8; 12260]
-    ensures { 12260 ≡ length result }
-{
-    [0u8; 12260]
-}
-
-// A job's session, or its refusal. `lines` are those of its text, none where it is no text.
-fn cut(rt: HostRuntime, label: &[u8], job: &[u8], lines: &[u32]) -> u8 {
-    let end = io_intake::chip_end(job);
-    let mut room = job_room();
-    let laid = job_session::lay_job(&job[..end], &job[end..], &mut room);
+// A job's session, or its refusal.
+fn cut(voice: Voice, job: Job, page: Page) -> Result<Status, Failure> {
+    let (chip, order) = job.parts();
+    let mut room = [0u8; SESSION_SIZE];
+    let laid = job_session::lay_job(chip, order, &mut room);
     if laid.number != 0 {
-        io_intake::say_refused(rt, label, laid.number, job, lines);
-        return io_edge::REFUSED;
+        job.say_refused(voice, laid.number);
+        return Ok(Status::Refused);
     }
-    io_edge::print(rt, b"cut: standard output", &room[..laid.size])
+    page.print(&room[..laid.size])?;
+    Ok(Status::Done)
 }
 
-fn run(rt: HostRuntime, label: &[u8], from: &mut Stream, is_text: bool) -> u8 {
-    let mut room = io_intake::job_buffer();
-    let mut lines = io_intake::line_buffer();
-    let job = io_intake::take(from, is_text, &mut room, &mut lines);
-    if job.fault != io_intake::FINE {
-        io_intake::say_unread(rt, label, job);
-        return io_edge::NOT_DONE;
-    }
-    cut(rt, label, &room[..job.count], &lines[..job.known])
+fn run(mut source: Source, hex: bool, page: Page) -> Result<Status, Failure> {
+    let mut room = [0u8; JOB_SIZE];
+    let mut lines = [0u32; JOB_SIZE];
+    let job = io_intake::take_source(&mut source, hex, &mut room, &mut lines)?;
+    cut(source.voice, job, page)
 }
 
 // The arguments are `[--tell] [--hex] [FILE]`.
 fn main(rt: HostRuntime) {
-    let mut label = io_edge::label_buffer();
-    let tells = io_edge::is_arg(rt, 1, b"--tell");
-    let listener = io_edge::listener(rt, tells);
-    let i = io_edge::behind(1, tells);
-    let hex = io_edge::is_arg(rt, i, b"--hex");
-    let mut source = io_edge::open_last(rt, b"cut: ", io_edge::behind(i, hex), &mut label);
-    if source.from.is_shut() {
-        io_edge::tell(listener, io_edge::NOT_DONE);
-        return;
-    }
-    let status = run(
-        rt,
-        &label[..source.labelled],
-        &mut source.from,
-        hex || source.is_text,
-    );
-    io_edge::tell(listener, status);
+    let voice = Voice {
+        err: rt.stderr(),
+        label: b"cut: ",
+    };
+    let page = Page {
+        out: rt.stdout(),
+        voice: voice.labelled(b"cut: standard output"),
+    };
+    let mut arguments = Arguments::new(&rt, voice);
+    let tells = arguments.take_option(b"--tell");
+    let listener = io_edge::listener(&rt, tells);
+    let hex = arguments.take_option(b"--hex");
+    let mut label = Label::new();
+    let source = arguments.open_last(rt.stdin(), &mut label);
+    io_edge::tell(listener, source.and_then(|source| run(source, hex, page)));
 }

@@ -9,12 +9,13 @@ mod status;
 mod voice;
 
 ghost use Rattle.std.specs.Prelude.{◌≡◌, length, take, OnOk};
+ghost use Rattle.std.specs.IoError.{raw_os_error};
 ghost use Rattle.std.specs.Io.KnownBytes.{Consumes, Appends};
 ghost use Rattle.io_edge.specs.Counts.{IsPrefixLen, count_in};
 
 pub use files::{open_overwrite, open_read, remove, rename};
 pub use page::Page;
-pub use source::{Arguments, Label, Source, Stream, is_text_name, open_stream};
+pub use source::{Arguments, Label, Source, Stream, is_text_name};
 pub use status::{Failure, Status, listener, tell};
 use std::io::{ErrorKind, Read, Write};
 use std::{io, thread};
@@ -43,6 +44,13 @@ fn is_again(error: &io::Error) -> bool {
     }
 }
 
+// Why reading is given up that does not come to its end: there is no word for that.
+pub fn given_up() -> io::Error
+    ensures { raw_os_error result ≡ Some EIO }
+{
+    io::Error::from_raw_os_error(EIO)
+}
+
 // Reads until the room is full or the input ends. The loops here count more turns than a run uses up, since nothing
 // says how often a call is made again.
 pub fn read_full<R: Read>(from: &mut R, room: &mut [u8]) -> Result<usize, ReadError>
@@ -64,8 +72,10 @@ pub fn read_full<R: Read>(from: &mut R, room: &mut [u8]) -> Result<usize, ReadEr
             }
         }
     }
-    let why = io::Error::from_raw_os_error(EIO);
-    Err(ReadError { count, why })
+    Err(ReadError {
+        count,
+        why: given_up(),
+    })
 }
 
 // Why a write is given up that moves nothing: no other would move more.

@@ -41,12 +41,6 @@ impl Read for Stream {
     }
 }
 
-// The file of a name.
-pub fn open_stream<R: Files<File = File>>(rt: &R, name: &[u8]) -> io::Result<Stream> {
-    let file = open_read(rt, name)?;
-    Ok(Stream::Named(file))
-}
-
 // What a program reads, who says what is wrong with that, and whether its name is that of a text.
 #[derive(Drop)]
 pub struct Source<'a> {
@@ -75,7 +69,7 @@ pub struct Arguments<'a, R> {
     pub next: usize,
 }
 
-impl<'a, R: Env + Files<File = File>> Arguments<'a, R> {
+impl<'a, R: Env> Arguments<'a, R> {
     pub fn new(rt: &'a R, voice: Voice<'a>) -> Arguments<'a, R>
         ensures { result.next ≡ 1 }
     {
@@ -113,7 +107,9 @@ impl<'a, R: Env + Files<File = File>> Arguments<'a, R> {
             Err(FillError::NotPresent) => false,
         }
     }
+}
 
+impl<R: Env + Files<File = File>> Arguments<'_, R> {
     // What the next argument names, or standard input where there is none; nothing may follow. The label is the
     // program's and the file's name.
     pub fn open_last<'b>(&self, stdin: Stdin, label: &'b mut Label) -> Result<Source<'b>, Failure>
@@ -149,9 +145,9 @@ impl<'a, R: Env + Files<File = File>> Arguments<'a, R> {
         let name = &room[..n];
         label.put_text(name);
         let voice = self.voice.labelled(label.as_bytes());
-        match open_stream(self.rt, name) {
-            Ok(from) => Ok(Source {
-                from,
+        match open_read(self.rt, name) {
+            Ok(file) => Ok(Source {
+                from: Stream::Named(file),
                 voice,
                 is_text: is_text_name(name),
             }),

@@ -1,6 +1,0 @@
--- `groupings::print_ending`: what is filled lies within the buffer, so the part that is written has that length.
-use Rattle.std.proofs.Common.{arith, length-take, rules}
-use Rattle.groupings.proofs.print_ending.Goals as goal
-
-pub slice_bounds-write-end : goal.slice_bounds-write-end
-slice_bounds-write-end c = simp length-take (omega arith)
