@@ -10,146 +10,90 @@ mod lines;
 mod making;
 mod stored;
 
-ghost use Rattle.std.specs.Prelude.{◌≡◌, ◌+◌, ◌≤◌, length};
-
-use input::{ENDED, FAILED, NO_FAULT, take_kind};
-use io_edge::{Page, Stream};
+use input::{Fault, Input};
+use io_edge::{Arguments, Failure, Label, Page, Source, Status, Voice};
+use lines::Lines;
 use making::make;
+use print_forms::Line;
+use std::fmt::Write;
 
 // No call's line is longer than 2,600 characters.
 const LINE_ROOM: usize = 4_096;
 
-// How much of the buffer is filled, how many calls were made, and what is at fault with the next, which ends it all.
-#[derive(Clone, Copy)]
-struct Stand {
-    pub filled: usize,
-    pub count: u64,
-    pub fault: u8,
+const END_SIZE: usize = 48;
+
+// Where another line might not fit, those before it go out.
+fn make_room(page: Page, out: &mut Lines) -> Result<(), Failure> {
+    if LINE_ROOM <= out.room() {
+        return Ok(());
+    }
+    let printed = page.print(out.as_bytes());
+    out.clear();
+    printed
 }
 
-// Where a write failed, nothing is written behind it.
-fn write(page: &mut Page, text: &[u8]) {
-    io_edge::print_on(page, b"calls: standard output", text);
-}
-
-// How much of the buffer stays filled where a line is to come: all, or none of it once it is written.
-fn room_for(rt: HostRuntime, fault: &mut u8, out: &[u8], filled: usize) -> usize
-    requires { filled ≤ length out.now }
-    ensures { result ≤ length out.now }
-{
-    if LINE_ROOM <= out.len() - filled {
-        return filled;
-    }
-    let mut page = io_edge::new_page(rt);
-    write(&mut page, &out[..filled]);
-    if page.status != io_edge::DONE {
-        *fault = FAILED;
-    }
-    0
-}
-
-// The next call.
-fn make_next(s: Stand, out: &mut [u8], rt: HostRuntime, label: &[u8], from: &mut Stream) -> Stand
-    requires { s.filled ≤ length out.old }
-    ensures { result.filled ≤ length out.new }
-{
-    let mut fault = NO_FAULT;
-    let at = room_for(rt, &mut fault, out, s.filled);
-    let kind = take_kind(&mut fault, rt, label, from);
-    let end = make(kind, &mut fault, rt, label, from, out, at);
-    if fault == NO_FAULT {
-        return Stand {
-            filled: end,
-            count: s.count.wrapping_add(1),
-            fault: NO_FAULT,
-        };
-    }
-    Stand {
-        filled: at,
-        count: s.count,
-        fault: fault,
-    }
-}
-
-// Call after call, to the end of the input or to a call that is none. The loop has more turns than a run uses up,
-// since nothing says that an input ends.
-fn make_all(out: &mut [u8], rt: HostRuntime, label: &[u8], from: &mut Stream) -> Stand
-    ensures { result.filled ≤ length out.new }
-{
-    let mut s = Stand {
-        filled: 0,
-        count: 0,
-        fault: NO_FAULT,
-    };
+// Call after call, to the end of the input or to a call that is none; how many were made is counted. The loop has more
+// turns than a run uses up, since nothing says that an input ends.
+fn make_all(input: &mut Input, page: Page, out: &mut Lines, count: &mut u64) -> Result<(), Fault> {
     for _ in 0..u64::MAX {
-        s = make_next(s, out, rt, label, from);
-        if s.fault != NO_FAULT {
-            return s;
-        }
+        make_room(page, out)?;
+        let Some(call) = input.take_call()? else {
+            return Ok(());
+        };
+        make(call, out, input)?;
+        *count = count.wrapping_add(1);
     }
-    s
+    Err(Fault::Failed)
 }
 
 // What is wrong with the call behind those that were made. A read or a write that failed was said already.
-fn say_wrong(rt: HostRuntime, label: &[u8], s: Stand) {
-    if s.fault != FAILED {
-        io_edge::say_form(
-            rt,
-            label,
-            b": number # is no call: %{\x01the input ends within it|\x02memory or words too long|\x03no such call|}\n",
-            &[s.count.wrapping_add(1), s.fault as u64],
-        );
+fn say_wrong(voice: Voice, count: u64, fault: Fault) {
+    if fault != Fault::Failed {
+        let number = count.wrapping_add(1);
+        voice.say_line(format_args!(": number {number} is no call: {fault}\n"));
     }
 }
 
-// The last line. DONE where it went out, else the status.
-fn print_end(rt: HostRuntime, count: u64) -> u8 {
-    let mut line = [0u8; 48];
-    let n = print_forms::put_form(&mut line, 0, b"END #\n", &[count]);
-    io_edge::print(rt, b"calls: standard output", &line[..n])
+// The last line.
+fn print_end(page: Page, count: u64) -> Result<(), Failure> {
+    let mut line = Line::<END_SIZE>::new();
+    let _ = writeln!(line, "END {count}");
+    page.print(line.as_bytes())
 }
 
-// The lines that are left, and the last one behind the last call.
-fn finish(rt: HostRuntime, out: &[u8], label: &[u8], s: Stand) -> u8
-    requires { s.filled ≤ length out.now }
-{
-    let filled = s.filled;
-    let mut page = io_edge::new_page(rt);
-    write(&mut page, &out[..filled]);
-    if s.fault != ENDED {
-        say_wrong(rt, label, s);
-        return io_edge::NOT_DONE;
+// All calls of an input, and the last line behind the last call.
+fn calls(source: Source, page: Page) -> Result<Status, Failure> {
+    let voice = source.voice;
+    let mut input = Input { source };
+    let mut out = Lines::new();
+    let mut count = 0;
+    let made = make_all(&mut input, page, &mut out, &mut count);
+    let printed = page.print(out.as_bytes());
+    if let Err(fault) = made {
+        say_wrong(voice, count, fault);
+        return Err(Failure::NotDone);
     }
-    if page.status == io_edge::DONE {
-        return print_end(rt, s.count);
-    }
-    page.status
-}
-
-// Room for lines: some are gathered before they are written.
-fn text_buffer() -> [u8; 32768]
-    ensures { 32768 ≡ length result }
-{
-    [0; 32768]
-}
-
-// All calls of an input. The status then.
-fn calls(rt: HostRuntime, from: &mut Stream, label: &[u8]) -> u8 {
-    let mut out = text_buffer();
-    let s = make_all(&mut out, rt, label, from);
-    finish(rt, &out, label, s)
+    printed?;
+    print_end(page, count)?;
+    Ok(Status::Done)
 }
 
 // The arguments are `[--tell] [FILE]`.
 fn main(rt: HostRuntime) {
-    let mut label = io_edge::label_buffer();
-    let tells = io_edge::is_arg(rt, 1, b"--tell");
-    let listener = io_edge::listener(rt, tells);
-    let mut source = io_edge::open_last(rt, b"calls: ", io_edge::behind(1, tells), &mut label);
-    if source.from.is_shut() {
-        io_edge::tell(listener, io_edge::NOT_DONE);
-        return;
-    }
-    let status = calls(rt, &mut source.from, &label[..source.labelled]);
-    io_edge::tell(listener, status);
+    let voice = Voice {
+        err: rt.stderr(),
+        label: b"calls: ",
+    };
+    let page = Page {
+        out: rt.stdout(),
+        voice: voice.labelled(b"calls: standard output"),
+    };
+    let mut arguments = Arguments::new(&rt, voice);
+    let listener = io_edge::listener(&rt, arguments.take_option(b"--tell"));
+    let mut label = Label::new();
+    let ended = match arguments.open_last(rt.stdin(), &mut label) {
+        Ok(source) => calls(source, page),
+        Err(failure) => Err(failure),
+    };
+    io_edge::tell(listener, ended);
 }

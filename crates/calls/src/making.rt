@@ -1,337 +1,142 @@
-// The seven calls: each takes its parts from the input, makes the call, and puts its line from `at` on. Each gives the
-// place behind the line; where a part is at fault, the call is not made and there is no line.
-ghost use Rattle.std.specs.Prelude.{◌≡◌, ◌≤◌, length};
-ghost use Rattle.print_forms.specs.Room.{Behind};
+// The seven calls: each takes its parts from the input, makes the call, and gives it a line. Where a part is at fault,
+// the call is not made and there is no line.
+ghost use Rattle.std.specs.Prelude.{◌≤◌, length};
 
-use crate::card_in::card_in;
-use crate::input::{NO_FAULT, UNKNOWN, memory_buffer, take, take_memory, take_words};
-use crate::lines::{put_count, put_made, put_played, put_pulled, put_ran, put_shown, put_written};
-use io_edge::Stream;
+use crate::input::{Call, Fault, Input, MEMORY_LIMIT, WORD_LIMIT};
+use crate::lines::{
+    Lines, put_count, put_made, put_played, put_pulled, put_ran, put_shown, put_written,
+};
 use model::Card;
-
-// The byte that says which call.
-const PLAY: u8 = 1;
-
-const RUN: u8 = 2;
-
-const SHOWN: u8 = 3;
-
-const COUNT: u8 = 4;
-
-const FRESH: u8 = 5;
-
-const WRITE: u8 = 6;
-
-const PULL: u8 = 7;
-
-// A card's stored bytes.
-fn take_card(fault: &mut u8, rt: HostRuntime, label: &[u8], from: &mut Stream) -> Card {
-    let mut bytes = [0u8; 1050];
-    take(fault, rt, label, from, &mut bytes);
-    card_in(&bytes)
-}
+use std::fmt;
 
 // One event.
 fn play_on(
+    out: &mut Lines,
     c: Card,
     area: &mut [u8],
     answer: &mut [u8],
     record: &[u8],
-    out: &mut [u8],
-    at: usize,
-) -> usize
-    requires { (at ≤ length out.old) × (length area.old ≤ 12480) × (length answer.old ≤ 12480) }
-    ensures { Behind at result out.new }
+) -> fmt::Result
+    requires { (length area.old ≤ 12480) × (length answer.old ≤ 12480) }
 {
     let x = face::play(c, area, answer, record);
-    put_played(out, at, x, area, answer)
+    put_played(out, &x, area, answer)
 }
 
 // Card, area, answer buffer, record.
-fn make_play(
-    fault: &mut u8,
-    rt: HostRuntime,
-    label: &[u8],
-    from: &mut Stream,
-    out: &mut [u8],
-    at: usize,
-) -> usize
-    requires { at ≤ length out.old }
-    ensures { result ≤ length out.new }
-{
-    let c = take_card(fault, rt, label, from);
-    let mut area = memory_buffer();
-    let n = take_memory(fault, rt, label, from, &mut area);
-    let mut answer = memory_buffer();
-    let m = take_memory(fault, rt, label, from, &mut answer);
-    let mut record = memory_buffer();
-    let k = take_memory(fault, rt, label, from, &mut record);
-    let found = *fault;
-    if found != NO_FAULT {
-        return at;
-    }
-    play_on(c, &mut area[..n], &mut answer[..m], &record[..k], out, at)
+fn make_play(out: &mut Lines, input: &mut Input) -> Result<fmt::Result, Fault> {
+    let c = input.take_card()?;
+    let mut area = [0u8; MEMORY_LIMIT];
+    let n = input.take_memory(&mut area)?;
+    let mut answer = [0u8; MEMORY_LIMIT];
+    let m = input.take_memory(&mut answer)?;
+    let mut record = [0u8; MEMORY_LIMIT];
+    let k = input.take_memory(&mut record)?;
+    Ok(play_on(out, c, &mut area[..n], &mut answer[..m], &record[..k]))
 }
 
 // A session.
 fn run_on(
+    out: &mut Lines,
     c: Card,
     area: &mut [u8],
     session: &[u8],
     words: &mut [u16],
-    out: &mut [u8],
-    at: usize,
-) -> usize
-    requires { (at ≤ length out.old) × (length area.old ≤ 12480) × (length words.old ≤ 64) }
-    ensures { Behind at result out.new }
+) -> fmt::Result
+    requires { (length area.old ≤ 12480) × (length words.old ≤ 64) }
 {
     let x = face::run(c, area, session, words);
-    put_ran(out, at, x, area, words)
+    put_ran(out, &x, area, words)
 }
 
 // Card, area, session, words.
-fn make_run(
-    fault: &mut u8,
-    rt: HostRuntime,
-    label: &[u8],
-    from: &mut Stream,
-    out: &mut [u8],
-    at: usize,
-) -> usize
-    requires { at ≤ length out.old }
-    ensures { result ≤ length out.new }
-{
-    let c = take_card(fault, rt, label, from);
-    let mut area = memory_buffer();
-    let n = take_memory(fault, rt, label, from, &mut area);
-    let mut session = memory_buffer();
-    let m = take_memory(fault, rt, label, from, &mut session);
-    let mut words = [0u16; 64];
-    let k = take_words(fault, rt, label, from, &mut words);
-    let found = *fault;
-    if found != NO_FAULT {
-        return at;
-    }
-    run_on(c, &mut area[..n], &session[..m], &mut words[..k], out, at)
+fn make_run(out: &mut Lines, input: &mut Input) -> Result<fmt::Result, Fault> {
+    let c = input.take_card()?;
+    let mut area = [0u8; MEMORY_LIMIT];
+    let n = input.take_memory(&mut area)?;
+    let mut session = [0u8; MEMORY_LIMIT];
+    let m = input.take_memory(&mut session)?;
+    let mut words = [0u16; WORD_LIMIT];
+    let k = input.take_words(&mut words)?;
+    Ok(run_on(out, c, &mut area[..n], &session[..m], &mut words[..k]))
 }
 
 // A file's record.
-fn shown_on(c: Card, area: &[u8], sfi: u8, nn: u8, out: &mut [u8], at: usize) -> usize
-    requires { (at ≤ length out.old) × (length area.now ≤ 12480) }
-    ensures { Behind at result out.new }
+fn shown_on(out: &mut Lines, c: Card, area: &[u8], sfi: u8, nn: u8) -> fmt::Result
+    requires { length area.now ≤ 12480 }
 {
     let x = face::shown(c, area, sfi, nn);
-    let part = face::part_shown(area, x);
-    put_shown(out, at, x, part)
+    put_shown(out, &x, face::part_shown(area, x))
 }
 
 // Card, area, SFI, nn.
-fn make_shown(
-    fault: &mut u8,
-    rt: HostRuntime,
-    label: &[u8],
-    from: &mut Stream,
-    out: &mut [u8],
-    at: usize,
-) -> usize
-    requires { at ≤ length out.old }
-    ensures { result ≤ length out.new }
-{
-    let c = take_card(fault, rt, label, from);
-    let mut area = memory_buffer();
-    let n = take_memory(fault, rt, label, from, &mut area);
-    let mut asked = [0u8; 2];
-    take(fault, rt, label, from, &mut asked);
-    let found = *fault;
-    if found != NO_FAULT {
-        return at;
-    }
-    shown_on(c, &area[..n], asked[0], asked[1], out, at)
+fn make_shown(out: &mut Lines, input: &mut Input) -> Result<fmt::Result, Fault> {
+    let c = input.take_card()?;
+    let mut area = [0u8; MEMORY_LIMIT];
+    let n = input.take_memory(&mut area)?;
+    let asked = input.take_array::<2>()?;
+    Ok(shown_on(out, c, &area[..n], asked[0], asked[1]))
 }
 
 // The rows of a set.
-fn make_count(
-    fault: &mut u8,
-    rt: HostRuntime,
-    label: &[u8],
-    from: &mut Stream,
-    out: &mut [u8],
-    at: usize,
-) -> usize
-    requires { at ≤ length out.old }
-    ensures { result ≤ length out.new }
-{
-    let mut rows = [0u8; 2];
-    take(fault, rt, label, from, &mut rows);
-    let found = *fault;
-    if found != NO_FAULT {
-        return at;
-    }
-    put_count(out, at, face::count(u16::from_be_bytes(rows)))
+fn make_count(out: &mut Lines, input: &mut Input) -> Result<fmt::Result, Fault> {
+    let rows = u16::from_be_bytes(input.take_array()?);
+    Ok(put_count(out, face::count(rows)))
 }
 
 // The fresh card of a chip record.
-fn make_fresh(
-    fault: &mut u8,
-    rt: HostRuntime,
-    label: &[u8],
-    from: &mut Stream,
-    out: &mut [u8],
-    at: usize,
-) -> usize
-    requires { at ≤ length out.old }
-    ensures { result ≤ length out.new }
-{
-    let mut chip = memory_buffer();
-    let n = take_memory(fault, rt, label, from, &mut chip);
-    let found = *fault;
-    if found != NO_FAULT {
-        return at;
-    }
-    put_made(out, at, face::fresh(&chip[..n]))
+fn make_fresh(out: &mut Lines, input: &mut Input) -> Result<fmt::Result, Fault> {
+    let mut chip = [0u8; MEMORY_LIMIT];
+    let n = input.take_memory(&mut chip)?;
+    let x = face::fresh(&chip[..n]);
+    Ok(put_made(out, &x))
 }
 
 // The writer's records.
-fn write_on(chip: &[u8], order: &[u8], room: &mut [u8], out: &mut [u8], at: usize) -> usize
-    requires { (at ≤ length out.old) × (length room.old ≤ 12480) }
-    ensures { Behind at result out.new }
+fn write_on(out: &mut Lines, chip: &[u8], order: &[u8], room: &mut [u8]) -> fmt::Result
+    requires { length room.old ≤ 12480 }
 {
     let x = face::write(chip, order, room);
-    put_written(out, at, x, room)
+    put_written(out, &x, room)
 }
 
 // Chip record, order, room.
-fn make_write(
-    fault: &mut u8,
-    rt: HostRuntime,
-    label: &[u8],
-    from: &mut Stream,
-    out: &mut [u8],
-    at: usize,
-) -> usize
-    requires { at ≤ length out.old }
-    ensures { result ≤ length out.new }
-{
-    let mut chip = memory_buffer();
-    let n = take_memory(fault, rt, label, from, &mut chip);
-    let mut order = memory_buffer();
-    let m = take_memory(fault, rt, label, from, &mut order);
-    let mut room = memory_buffer();
-    let k = take_memory(fault, rt, label, from, &mut room);
-    let found = *fault;
-    if found != NO_FAULT {
-        return at;
-    }
-    write_on(&chip[..n], &order[..m], &mut room[..k], out, at)
+fn make_write(out: &mut Lines, input: &mut Input) -> Result<fmt::Result, Fault> {
+    let mut chip = [0u8; MEMORY_LIMIT];
+    let n = input.take_memory(&mut chip)?;
+    let mut order = [0u8; MEMORY_LIMIT];
+    let m = input.take_memory(&mut order)?;
+    let mut room = [0u8; MEMORY_LIMIT];
+    let k = input.take_memory(&mut room)?;
+    Ok(write_on(out, &chip[..n], &order[..m], &mut room[..k]))
 }
 
 // A pull of the reader at a place: what it finds, and the value that it hands back.
-fn pull_on(order: &[u8], place: usize, out: &mut [u8], at: usize) -> usize
-    requires { (at ≤ length out.old) × (length order.now ≤ 12480) }
-    ensures { Behind at result out.new }
+fn pull_on(out: &mut Lines, order: &[u8], place: usize) -> fmt::Result
+    requires { length order.now ≤ 12480 }
 {
     let x = face::pulled_at(order, place);
-    let value = face::value_pulled(order, place);
-    put_pulled(out, at, x, value)
+    put_pulled(out, &x, face::value_pulled(order, place))
 }
 
 // Order, place.
-fn make_pull(
-    fault: &mut u8,
-    rt: HostRuntime,
-    label: &[u8],
-    from: &mut Stream,
-    out: &mut [u8],
-    at: usize,
-) -> usize
-    requires { at ≤ length out.old }
-    ensures { result ≤ length out.new }
-{
-    let mut order = memory_buffer();
-    let n = take_memory(fault, rt, label, from, &mut order);
-    let mut place = [0u8; 8];
-    take(fault, rt, label, from, &mut place);
-    let found = *fault;
-    if found != NO_FAULT {
-        return at;
-    }
-    pull_on(&order[..n], u64::from_be_bytes(place) as usize, out, at)
+fn make_pull(out: &mut Lines, input: &mut Input) -> Result<fmt::Result, Fault> {
+    let mut order = [0u8; MEMORY_LIMIT];
+    let n = input.take_memory(&mut order)?;
+    let place = u64::from_be_bytes(input.take_array()?) as usize;
+    Ok(pull_on(out, &order[..n], place))
 }
 
-// The calls on a card.
-fn make_on_card(
-    kind: u8,
-    fault: &mut u8,
-    rt: HostRuntime,
-    label: &[u8],
-    from: &mut Stream,
-    out: &mut [u8],
-    at: usize,
-) -> usize
-    requires { at ≤ length out.old }
-    ensures { result ≤ length out.new }
-{
-    if kind == PLAY {
-        return make_play(fault, rt, label, from, out, at);
-    }
-    if kind == RUN {
-        return make_run(fault, rt, label, from, out, at);
-    }
-    make_shown(fault, rt, label, from, out, at)
-}
-
-// The others.
-fn make_other(
-    kind: u8,
-    fault: &mut u8,
-    rt: HostRuntime,
-    label: &[u8],
-    from: &mut Stream,
-    out: &mut [u8],
-    at: usize,
-) -> usize
-    requires { at ≤ length out.old }
-    ensures { result ≤ length out.new }
-{
-    if kind == COUNT {
-        return make_count(fault, rt, label, from, out, at);
-    }
-    if kind == FRESH {
-        return make_fresh(fault, rt, label, from, out, at);
-    }
-    if kind == WRITE {
-        return make_write(fault, rt, label, from, out, at);
-    }
-    make_pull(fault, rt, label, from, out, at)
-}
-
-// The call of a byte, and its line. There is none where anything is at fault before it.
-pub fn make(
-    kind: u8,
-    fault: &mut u8,
-    rt: HostRuntime,
-    label: &[u8],
-    from: &mut Stream,
-    out: &mut [u8],
-    at: usize,
-) -> usize
-    requires { at ≤ length out.old }
-    ensures { result ≤ length out.new }
-{
-    let found = *fault;
-    if found != NO_FAULT {
-        return at;
-    }
-    if kind < PLAY {
-        *fault = UNKNOWN;
-        return at;
-    }
-    if PULL < kind {
-        *fault = UNKNOWN;
-        return at;
-    }
-    if kind <= SHOWN {
-        return make_on_card(kind, fault, rt, label, from, out, at);
-    }
-    make_other(kind, fault, rt, label, from, out, at)
+// A call and its line, which has room.
+pub fn make(call: Call, out: &mut Lines, input: &mut Input) -> Result<(), Fault> {
+    let _ = match call {
+        Call::Play => make_play(out, input)?,
+        Call::Run => make_run(out, input)?,
+        Call::Shown => make_shown(out, input)?,
+        Call::Count => make_count(out, input)?,
+        Call::Fresh => make_fresh(out, input)?,
+        Call::Write => make_write(out, input)?,
+        Call::Pull => make_pull(out, input)?,
+    };
+    Ok(())
 }

@@ -69,7 +69,7 @@ pub struct Arguments<'a, R> {
     pub next: usize,
 }
 
-impl<'a, R: Env + Files<File = File>> Arguments<'a, R> {
+impl<'a, R: Env> Arguments<'a, R> {
     pub fn new(rt: &'a R, voice: Voice<'a>) -> Arguments<'a, R>
         ensures { result.next ≡ 1 }
     {
@@ -107,7 +107,9 @@ impl<'a, R: Env + Files<File = File>> Arguments<'a, R> {
             Err(FillError::NotPresent) => false,
         }
     }
+}
 
+impl<R: Env + Files<File = File>> Arguments<'_, R> {
     // What the next argument names, or standard input where there is none; nothing may follow. The label is the
     // program's and the file's name.
     pub fn open_last<'b>(&self, stdin: Stdin, label: &'b mut Label) -> Result<Source<'b>, Failure>

@@ -94,12 +94,10 @@ impl<'a> Job<'a> {
         Why::Complete
     }
 
-    // The line of the text on which a byte of the order stands; 0 where it has none.
-    fn line_of(self, place: usize) -> u32 {
-        if self.lines.len() < CHIP_SIZE {
-            return 0;
-        }
-        self.lines[CHIP_SIZE..].get(place).copied().unwrap_or(0)
+    // The line of the text on which an order stops.
+    fn line_of(self, why: Why) -> Option<u32> {
+        let Why::Stops(stop) = why else { return None };
+        self.lines.get(CHIP_SIZE..)?.get(stop.place).copied()
     }
 
     // A job that is refused, which is said in one line on standard error: the label, the number, and what it means for
@@ -110,10 +108,7 @@ impl<'a> Job<'a> {
             number,
             chip_size: chip_end(self.bytes),
             why,
-            line: match why {
-                Why::Complete => 0,
-                Why::Stops(stop) => self.line_of(stop.place),
-            },
+            line: self.line_of(why),
         };
         let mut text = Line::<MESSAGE_SIZE>::new();
         text.put_text(voice.label);

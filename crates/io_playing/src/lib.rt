@@ -65,7 +65,8 @@ pub fn begin(source: &mut Source) -> Begun
 }
 
 // How far a session is played: the card, the number of events by its last five digits, what was noted of them, how
-// many bytes of lines are gathered, and how many of the session are behind the last whole record.
+// many bytes of lines are gathered (a `Line` lends no slice for `enter_all` to write into), and how many of the session
+// are behind the last whole record.
 #[derive(Clone, Copy)]
 struct Stand {
     card: Card,

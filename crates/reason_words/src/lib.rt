@@ -164,19 +164,19 @@ pub fn has_tag(cause: Cause) -> bool {
     }
 }
 
-// Where an order stops, and in a text that it was read from; and why. A line of 0 is none.
+// Where an order stops, and on which line of a text that it was read from; and why.
 #[derive(Clone, Copy)]
 struct StopWords {
     stop: Stop,
-    line: u32,
+    line: Option<u32>,
 }
 
 impl StopWords {
     // Where in the order, and in the text.
     fn put_place<W: Write>(&self, f: &mut Formatter<W>) -> fmt::Result {
         write!(f, ": at byte {} of the order", self.stop.place)?;
-        if self.line != 0 {
-            write!(f, " (line {} of the text)", self.line)?;
+        if let Some(line) = self.line {
+            write!(f, " (line {line} of the text)")?;
         }
         if has_tag(self.stop.cause) {
             write!(f, ", '{:04X}'", self.stop.tag)?;
@@ -210,13 +210,13 @@ impl Display for StopWords {
 }
 
 // A refusal by its number. `chip_size` is told for 7. For 10 `why` is what the order stops at, and `line` that one's
-// line in a text, or 0.
+// line in a text.
 #[derive(Clone, Copy)]
 pub struct Refusal {
     pub number: u8,
     pub chip_size: usize,
     pub why: Why,
-    pub line: u32,
+    pub line: Option<u32>,
 }
 
 impl Refusal {

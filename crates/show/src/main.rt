@@ -4,38 +4,50 @@
 
 mod facts;
 mod files;
-mod form;
+mod text;
 
 use facts::write_facts;
 use files::write_table;
-use io_edge::Stream;
+use io_edge::{Arguments, Failure, Label, Page, Source, Status, Voice};
+use io_playing::Ending;
+use model::Card;
+use std::fmt;
+use text::Text;
 
-fn show(rt: HostRuntime, from: &mut Stream, label: &[u8]) -> u8 {
+fn write_card(text: &mut Text, c: &Card, area: &[u8], events: u64) -> fmt::Result {
+    write_facts(text, c, events)?;
+    write_table(text, c, area)
+}
+
+fn show(source: &mut Source, page: Page) -> Result<Status, Failure> {
     let mut area = io_playing::clear_area();
-    let outcome = io_playing::play(rt, label, from, &mut area, b"");
-    if !outcome.ended {
-        return outcome.status;
+    let outcome = io_playing::play(source, None, &mut area);
+    let ending = outcome.ending?;
+    if let Ending::Played(_) = ending {
+        let card = card_veiled::veiled(outcome.card);
+        let mut text = Text::new(page);
+        // What could not be written the end says.
+        let _ = write_card(&mut text, &card, &area, outcome.events);
+        text.finish()?;
     }
-    let played = outcome.card;
-    let card = card_veiled::veiled(played);
-    let mut page = io_edge::new_page(rt);
-    write_facts(&mut page, card, outcome.events);
-    write_table(&mut page, card, &area);
-    if page.status == io_edge::DONE {
-        return outcome.status;
-    }
-    page.status
+    Ok(Status::from(ending))
 }
 
 fn main(rt: HostRuntime) {
-    let mut label = io_edge::label_buffer();
-    let tells = io_edge::is_arg(rt, 1, b"--tell");
-    let listener = io_edge::listener(rt, tells);
-    let mut source = io_edge::open_last(rt, b"show: ", io_edge::behind(1, tells), &mut label);
-    if source.from.is_shut() {
-        io_edge::tell(listener, io_edge::NOT_DONE);
-        return;
-    }
-    let status = show(rt, &mut source.from, &label[..source.labelled]);
-    io_edge::tell(listener, status);
+    let voice = Voice {
+        err: rt.stderr(),
+        label: b"show: ",
+    };
+    let page = Page {
+        out: rt.stdout(),
+        voice: voice.labelled(b"show: standard output"),
+    };
+    let mut arguments = Arguments::new(&rt, voice);
+    let listener = io_edge::listener(&rt, arguments.take_option(b"--tell"));
+    let mut label = Label::new();
+    let ended = match arguments.open_last(rt.stdin(), &mut label) {
+        Ok(mut source) => show(&mut source, page),
+        Err(failure) => Err(failure),
+    };
+    io_edge::tell(listener, ended);
 }

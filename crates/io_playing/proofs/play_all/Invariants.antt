@@ -1,6 +1,6 @@
 -- `io_playing::play_all`: the card stays good, the count under 100000, the buffers as long as they are, and the lines
 -- have room for those of another block.
-use Rattle.std.proofs.Common.{◌≡◌, ◌+◌, ◌≤◌, ◌<◌, length}
+use Rattle.std.proofs.Common.{◌+◌, ◌≤◌, ◌<◌}
 use Rattle.model.specs.Stored.{area_size}
 use Rattle.theorem_sound.specs.Keeps.{Good}
 use Rattle.io_playing.proofs.play_all.Given as goal
