@@ -101,7 +101,8 @@ impl<'a> Job<'a> {
     }
 
     // A job that is refused, which is said in one line on standard error: the label, the number, and what it means for
-    // this job. Why its order is not complete.
+    // this job. Why its order is not complete. Never inlined: the line would stand on the stack beside all that a job takes.
+    #[inline(never)]
     pub fn say_refused(self, voice: Voice, number: u8) -> Why {
         let why = self.why_of(number);
         let refusal = Refusal {

@@ -58,7 +58,8 @@ impl<R: Files<File = File>> Target<'_, R> {
         Failure::NotDone
     }
 
-    // The events of a register that stands and is whole.
+    // The events of a register that stands and is whole. Never inlined, to keep the stack small.
+    #[inline(never)]
     fn kept(&self) -> Option<usize> {
         let mut register = [0u8; REGISTER_SIZE];
         let mut file = io_edge::open_read(self.rt, self.path).ok()?;
@@ -246,7 +247,7 @@ impl<'a, R: Files<File = File>> Lot<'a, R> {
         let mut lines = [0u32; JOB_SIZE];
         for _ in 0..u64::MAX {
             self.pass_on(page, names.waits())?;
-            let Some(name) = names.next()? else {
+            let Some(name) = names.read_next()? else {
                 return self.tally.print(page);
             };
             self.turn(name, &mut room, &mut lines);
