@@ -101,8 +101,7 @@ impl<'a> Job<'a> {
     }
 
     // A job that is refused, which is said in one line on standard error: the label, the number, and what it means for
-    // this job. Why its order is not complete. Never inlined: the line would stand on the stack beside all that a job takes.
-    #[inline(never)]
+    // this job. Why its order is not complete.
     pub fn say_refused(self, voice: Voice, number: u8) -> Why {
         let why = self.why_of(number);
         let refusal = Refusal {
