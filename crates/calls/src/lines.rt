@@ -25,7 +25,7 @@ fn weight(i: usize, b: u8) -> usize
     requires { i < 12480 }
     ensures { (result ≡ (i + 1) * b) × (result ≤ 3182400) }
 {
-    (i + 1) * memory::wide(b)
+    (i + 1) * b as usize
 }
 
 // The place sum of memory.
