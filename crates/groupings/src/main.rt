@@ -5,7 +5,7 @@
 
 ghost use Rattle.std.specs.Prelude.{◌≡◌, ◌+◌, ◌≤◌, length, IfOk};
 
-use io_edge::{Arguments, Failure, LABEL_SIZE, Page, Source, Status, Voice, listener, tell};
+use io_edge::{Arguments, Failure, Label, Page, Source, Status, Voice, listener, tell};
 use job_text::{Fault, Mode, Place, Reading};
 use model::{CHIP_SIZE, Header};
 use print_forms::Line;
@@ -53,18 +53,17 @@ impl Lines<'_> {
         Ok(())
     }
 
-    fn put_character(&mut self, c: u8) -> Result<(), Failure> {
-        self.make_room(1)?;
-        self.text.put_text(&[c]);
+    fn put_text(&mut self, text: &[u8]) -> Result<(), Failure> {
+        self.make_room(text.len())?;
+        self.text.put_text(text);
         Ok(())
     }
 
     // A tag and the blank behind it.
     fn put_tag(&mut self, tag: u16) -> Result<(), Failure> {
-        self.make_room(5)?;
-        self.text.put_hex(&tag.to_be_bytes());
-        self.text.put_text(b" ");
-        Ok(())
+        let mut text = *b"0000 ";
+        print_numbers::put_hex4(&mut text, 0, tag);
+        self.put_text(&text)
     }
 
     // Bytes of a value in hexadecimal.
@@ -76,17 +75,21 @@ impl Lines<'_> {
         Ok(())
     }
 
-    // The line of a grouping: into the buffer at once where that can hold it, else in pieces.
+    // The line of a grouping: at once where the buffer can hold it, else in pieces.
     fn put_grouping(&mut self, tag: u16, value: &[u8]) -> Result<(), Failure> {
-        if value.len() < PIECE - LINE_MORE {
-            self.make_room(2 * value.len() + LINE_MORE)?;
+        if PIECE - LINE_MORE <= value.len() {
+            self.put_tag(tag)?;
+            self.put_bytes(value)?;
+            return self.put_text(b"\n");
         }
+        self.make_room(2 * value.len() + LINE_MORE)?;
         self.put_tag(tag)?;
-        if value.is_empty() {
-            self.put_character(b'-')?;
+        match value.len() {
+            0 => self.text.put_text(b"-"),
+            _ => self.text.put_hex(value),
         }
-        self.put_bytes(value)?;
-        self.put_character(b'\n')
+        self.text.put_text(b"\n");
+        Ok(())
     }
 
     // The lines of the groupings that are whole in a window. How much of it they use up.
@@ -128,7 +131,7 @@ impl Lines<'_> {
         self.put_bytes(&order[..n])?;
         self.owed = self.owed.saturating_sub(n);
         if self.owed == 0 {
-            self.put_character(b'\n')?;
+            self.put_text(b"\n")?;
         }
         Ok(n)
     }
@@ -265,10 +268,10 @@ impl Window<'_> {
         self.fill()?;
         let filled = self.filled;
         if filled < CHIP_SIZE {
-            self.source.voice.say_form(
-                b": the chip record has # byte~, and it must have 40\n",
-                &[filled as u64],
-            );
+            let s = if filled == 1 { "" } else { "s" };
+            self.source.voice.say_line(format_args!(
+                ": the chip record has {filled} byte{s}, and it must have 40\n"
+            ));
             return Ok(false);
         }
         self.use_up(CHIP_SIZE);
@@ -313,10 +316,10 @@ fn print(window: &mut Window, lines: &mut Lines) -> Result<Status, Failure> {
     window.pass_rest()?;
     lines.print_ending(torn)?;
     if torn {
-        window.source.voice.say_form(
-            b": torn at byte # of #: a header or a value is not whole there\n",
-            &[began, window.front],
-        );
+        let read = window.front;
+        window.source.voice.say_line(format_args!(
+            ": torn at byte {began} of {read}: a header or a value is not whole there\n"
+        ));
     }
     Ok(Status::of(torn))
 }
@@ -331,7 +334,7 @@ fn run<R: Env + Files<File = File>>(
 ) -> Result<Status, Failure>
     requires { arguments.next ≤ 9 }
 {
-    let mut label = [0u8; LABEL_SIZE];
+    let mut label = Label::new();
     let source = arguments.open_last(stdin, &mut label)?;
     let input = if hex || source.is_text {
         Input::Text(Reading::start().place)

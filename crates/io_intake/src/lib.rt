@@ -205,17 +205,21 @@ fn take_file<'a, R: Files>(
     take(&mut file, io_edge::is_text_name(name), room, lines)
 }
 
-// A job from the file of this name, which is text where the name ends so. What is wrong is said.
+// A job from the file of this name, which is text where the name ends so. What is wrong is said, and told.
 pub fn take_named<'a, R: Files>(
     rt: &R,
     voice: Voice,
     name: &[u8],
     room: &'a mut [u8],
     lines: &'a mut [u32],
-) -> Result<Job<'a>, Failure>
+) -> Result<Job<'a>, Unread>
     requires { length lines.old ≡ length room.old }
     ensures bytes { IfOk result (λ job. length job.bytes.now ≤ length room.old) }
     ensures lines { IfOk result (λ job. length job.lines.now ≤ length job.bytes.now) }
 {
-    take_file(rt, name, room, lines).map_err(|why| why.said(voice))
+    let taken = take_file(rt, name, room, lines);
+    if let Err(why) = taken {
+        why.said(voice);
+    }
+    taken
 }

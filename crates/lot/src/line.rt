@@ -1,166 +1,88 @@
 // A job's line on standard output: nine fields parted by tabs.
-ghost use Rattle.std.specs.Prelude.{◌≤◌, length};
-ghost use Rattle.print_forms.specs.Room.{Behind};
-
+use io_intake::Unread;
 use job_register::Entry;
+use print_forms::Line;
 use reason_why::Why;
+use std::fmt;
+use std::fmt::{Display, Formatter, Write};
 
-// How a job ended: entered; its register stood and was whole; refused by a number; not done, where a text's fault has
-// a place.
+// How a job ended: entered; its register stood and was whole, with so many events; refused by a number; not done, where
+// a text's fault has a line and a column.
 #[derive(Clone, Copy)]
 pub enum Ending {
-    Entered {
-        gp: u8,
-        internal: u8,
-        events: usize,
-        serial: u64,
-    },
+    Entered(Entry),
     Kept(usize),
-    Refused {
-        number: u8,
-        why: Why,
-    },
-    Undone {
-        row: u32,
-        column: u32,
-    },
+    Refused { number: u8, why: Why },
+    Undone(Option<(u32, u32)>),
 }
 
-const FIRST_PRINTABLE: u8 = 0x20;
+impl From<Unread> for Ending {
+    fn from(why: Unread) -> Self {
+        match why {
+            Unread::Failed(_) => Ending::Undone(None),
+            Unread::Wrong { line, column, .. } => Ending::Undone(Some((line, column))),
+        }
+    }
+}
 
-const DELETE: u8 = 0x7F;
+// The fields behind the name, each with the tab before it.
+impl Display for Ending {
+    fn fmt<W: Write>(&self, f: &mut Formatter<W>) -> fmt::Result {
+        match *self {
+            Ending::Entered(entry) => {
+                let Entry {
+                    events,
+                    gp,
+                    internal,
+                    ..
+                } = entry;
+                let serial = u64::from_be_bytes(entry.serial);
+                write!(
+                    f,
+                    "\t0\t{gp:02X}\t{internal:02X}\t{events}\t{serial:016X}\t-\t-\t-"
+                )
+            }
+            Ending::Kept(events) => write!(f, "\t0\t07\tA5\t{events}\t-\t-\t-\t-"),
+            Ending::Refused { number, why } => {
+                write!(f, "\t{number}\t-\t-\t0\t-")?;
+                put_why(f, why)
+            }
+            Ending::Undone(None) => write!(f, "\t-\t-\t-\t0\t-\t-\t-\t-"),
+            Ending::Undone(Some((line, column))) => {
+                write!(f, "\t-\t-\t-\t0\t-\t{line}:{column}\t-\t-")
+            }
+        }
+    }
+}
 
-const UNPRINTABLE: u8 = 0x3F;
+// What the order of a job stops at that is refused, if it does.
+fn put_why<W: Write>(f: &mut Formatter<W>, why: Why) -> fmt::Result {
+    match why {
+        Why::Complete => write!(f, "\t-\t-\t-"),
+        Why::Stops(stop) => {
+            let place = stop.place;
+            let tag = stop.tag;
+            let word = stop.word;
+            if reason_words::has_tag(stop.cause) {
+                return write!(f, "\t{place}\t{tag:04X}\t{word:04X}");
+            }
+            write!(f, "\t{place}\t-\t{word:04X}")
+        }
+    }
+}
 
+// Control characters would part a line.
 fn shown(c: u8) -> u8 {
-    if c < FIRST_PRINTABLE || c == DELETE {
-        return UNPRINTABLE;
+    if c.is_ascii_control() {
+        return b'?';
     }
     c
 }
 
-// Control characters would part a line.
-fn clean(line: &mut [u8], from: usize, to: usize)
-    requires { to ≤ length line.old }
-{
-    let mut i = from;
-    while i < to {
-        line[i] = shown(line[i]);
-        i += 1;
+// A job's line, as far as there is room.
+pub fn put_line<const N: usize>(lines: &mut Line<N>, name: &[u8], ending: Ending) {
+    for c in name {
+        lines.put_text(&[shown(*c)]);
     }
-}
-
-// A name, as far as there is room.
-fn put_name(line: &mut [u8], at: usize, name: &[u8]) -> usize
-    requires { at ≤ length line.old }
-    ensures { Behind at result line.new }
-{
-    let end = print_forms::put_text(line, at, name);
-    clean(line, at, end);
-    end
-}
-
-// A name and the fields behind it.
-fn told(line: &mut [u8], at: usize, name: &[u8], form: &[u8], values: &[u64]) -> usize
-    requires { at ≤ length line.old }
-    ensures { Behind at result line.new }
-{
-    let named = put_name(line, at, name);
-    print_forms::put_form(line, named, form, values)
-}
-
-// A serial number's 8 bytes as one number.
-fn serial_of(s: [u8; 8]) -> u64 {
-    let high = memory::word(s[0], s[1]) as u64 * 0x1_0000 + memory::word(s[2], s[3]) as u64;
-    let low = memory::word(s[4], s[5]) as u64 * 0x1_0000 + memory::word(s[6], s[7]) as u64;
-    high * 0x1_0000_0000 + low
-}
-
-pub fn entered(entry: Entry) -> Ending {
-    let serial = entry.serial;
-    Ending::Entered {
-        gp: entry.gp,
-        internal: entry.internal,
-        events: entry.events,
-        serial: serial_of(serial),
-    }
-}
-
-// One that is refused by a number, and what its order stops at, if it does.
-fn refused(line: &mut [u8], at: usize, name: &[u8], number: u8, why: Why) -> usize
-    requires { at ≤ length line.old }
-    ensures { Behind at result line.new }
-{
-    match why {
-        Why::Complete => told(
-            line,
-            at,
-            name,
-            b"\t#\t-\t-\t0\t-\t-\t-\t-\n",
-            &[number as u64],
-        ),
-        Why::Stops(stop) => {
-            let cause = stop.cause;
-            told(
-                line,
-                at,
-                name,
-                b"\t#\t-\t-\t0\t-\t#\t%{\x00%-|\x01&|}\t&\n",
-                &[
-                    number as u64,
-                    stop.place as u64,
-                    reason_words::has_tag(cause) as u64,
-                    stop.tag as u64,
-                    stop.word as u64,
-                ],
-            )
-        }
-    }
-}
-
-// A job's line, from `at` on, as far as there is room. The place behind it.
-pub fn put_line(line: &mut [u8], at: usize, name: &[u8], ending: Ending) -> usize
-    requires { at ≤ length line.old }
-    ensures { Behind at result line.new }
-{
-    match ending {
-        Ending::Entered {
-            gp,
-            internal,
-            events,
-            serial,
-        } => told(
-            line,
-            at,
-            name,
-            b"\t0\t$\t$\t#\t&&&&\t-\t-\t-\n",
-            &[
-                gp as u64,
-                internal as u64,
-                events as u64,
-                serial / 0x1_0000_0000_0000,
-                serial / 0x1_0000_0000,
-                serial / 0x1_0000,
-                serial,
-            ],
-        ),
-        Ending::Kept(events) => told(
-            line,
-            at,
-            name,
-            b"\t0\t07\tA5\t#\t-\t-\t-\t-\n",
-            &[events as u64],
-        ),
-        Ending::Refused { number, why } => refused(line, at, name, number, why),
-        Ending::Undone { row, column } => {
-            let is_placed = row != 0;
-            told(
-                line,
-                at,
-                name,
-                b"\t-\t-\t-\t0\t-\t%{\x00-|\x01#:#|}\t-\t-\n",
-                &[is_placed as u64, row as u64, column as u64],
-            )
-        }
-    }
+    let _ = writeln!(lines, "{ending}");
 }

@@ -1,107 +1,86 @@
 // What the program was started with: `[-0] [--resume] [--part K/N] OUT`.
-ghost use Rattle.std.specs.Prelude.{◌≡◌, ◌+◌, ◌≤◌, ◌<◌, length};
+ghost use Rattle.std.specs.Prelude.{◌<◌, ◌≤◌};
 
-const SLASH: u8 = 0x2F;
+use io_edge::Arguments;
+use std::env::Env;
+use std::fs::{File, Files};
 
-const ZERO: u8 = 0x30;
+const WORD_SIZE: usize = 16;
 
-// The digits of a part's number are few enough for it to be small.
+// A number has at most so many digits.
 const DIGITS: usize = 6;
 
-// Names end in a zero byte; registers that are whole are left; only names whose number from 0 is `part` modulo
-// `parts`, which is 0 where that was not told right; and where the folder stands among the arguments.
+// One of the parts that a lot is shared out in, by its number from 0.
+#[derive(Clone, Copy)]
+pub struct Part {
+    index: u64,
+    count: u64,
+    ghost among_them: { index < count },
+}
+
+// A number; 0 where there is no digit.
+fn number_of(digits: &[u8]) -> Option<u64> {
+    if DIGITS < digits.len() {
+        return None;
+    }
+    let mut n: u64 = 0;
+    for c in digits {
+        if !c.is_ascii_digit() {
+            return None;
+        }
+        n = n.saturating_mul(10).saturating_add(u64::from(*c - b'0'));
+    }
+    Some(n)
+}
+
+impl Part {
+    fn whole() -> Part {
+        Part { index: 0, count: 1 }
+    }
+
+    // `K/N`, K below N.
+    fn parse(word: &[u8]) -> Option<Part> {
+        let slash = word.iter().position(|c| *c == b'/')?;
+        let index = number_of(&word[..slash])?;
+        let count = number_of(&word[slash + 1..])?;
+        if index < count {
+            return Some(Part { index, count });
+        }
+        None
+    }
+
+    // Whether a name is this part's, by its number.
+    pub fn has(self, number: u64) -> bool {
+        number % self.count == self.index
+    }
+}
+
+// Names end in a zero byte; registers that are whole are left; only the names of a part.
 #[derive(Clone, Copy)]
 pub struct Options {
     pub zero: bool,
     pub resume: bool,
-    pub part: u64,
-    pub parts: u64,
-    pub folder: usize,
+    pub part: Part,
 }
 
-// A number and the place behind its digits.
-#[derive(Clone, Copy)]
-struct Number {
-    pub value: u64,
-    pub end: usize,
-}
-
-fn number_at(word: &[u8], at: usize) -> Number
-    requires { at ≤ length word.now }
-    ensures { result.end ≤ length word.now }
+fn read_part<R: Env + Files<File = File>>(arguments: &mut Arguments<R>) -> Option<Part>
+    requires { arguments.old.next ≤ 8 }
 {
-    let mut value: u64 = 0;
-    let mut i = at;
-    let mut left = DIGITS;
-    while 0 < left {
-        if i == word.len() {
-            return Number {
-                value: value,
-                end: i,
-            };
-        }
-        let c = word[i];
-        if c < ZERO || ZERO + 9 < c {
-            return Number {
-                value: value,
-                end: i,
-            };
-        }
-        value = value % 100_000 * 10 + (c % 16) as u64;
-        i += 1;
-        left -= 1;
-    }
-    Number {
-        value: value,
-        end: i,
-    }
+    let mut word = [0u8; WORD_SIZE];
+    let n = arguments.copy_next(&mut word)?;
+    arguments.next += 1;
+    Part::parse(&word[..n])
 }
 
-// `K/N`, K below N; else no parts.
-fn part_of(o: Options, word: &[u8]) -> Options {
-    let k = number_at(word, 0);
-    let mut next = o;
-    next.parts = 0;
-    if k.end < word.len() {
-        let slash = k.end;
-        let n = number_at(word, slash + 1);
-        if word[slash] == SLASH && n.end == word.len() && k.value < n.value {
-            next.part = k.value;
-            next.parts = n.value;
-        }
-    }
-    next
-}
-
-fn word_buffer() -> [u8; 16]
-    ensures { 16 ≡ length result }
+// The options, in this order; the folder is next behind them. None where a part is not told right.
+pub fn read_options<R: Env + Files<File = File>>(arguments: &mut Arguments<R>) -> Option<Options>
+    requires { arguments.old.next ≤ 1 }
 {
-    [0; 16]
-}
-
-fn with_part(rt: HostRuntime, o: Options, i: usize) -> Options {
-    let mut word = word_buffer();
-    let n = io_edge::argument(rt, i, &mut word);
-    part_of(o, &word[..n])
-}
-
-// The options, in this order, and the folder behind them.
-pub fn read_options(rt: HostRuntime) -> Options {
-    let zero = io_edge::is_arg(rt, 1, b"-0");
-    let second = io_edge::behind(1, zero);
-    let resume = io_edge::is_arg(rt, second, b"--resume");
-    let third = io_edge::behind(second, resume);
-    let parted = io_edge::is_arg(rt, third, b"--part");
-    let fourth = io_edge::behind(third, parted);
-    let o = Options {
-        zero: zero,
-        resume: resume,
-        part: 0,
-        parts: 1,
-        folder: io_edge::behind(fourth, parted),
-    };
-    if parted {
-        return with_part(rt, o, fourth);
+    let zero = arguments.take_option(b"-0");
+    let resume = arguments.take_option(b"--resume");
+    let mut part = Part::whole();
+    if arguments.take_option(b"--part") {
+        part = read_part(arguments)?;
     }
-    o
+    Some(Options { zero, resume, part })
 }
