@@ -2,12 +2,9 @@
 // hexadecimal, numbers. What there is no room for is left out.
 #![tactic(auto)]
 
-mod forms;
-
 ghost use Rattle.std.specs.Prelude.{◌≡◌, ◌+◌, ◌-◌, ◌/◌, ◌<◌, ◌≤◌, [], ◌++◌, length, take};
 ghost use Rattle.print_numbers.specs.Trace.{decimal_of, hex_of};
 
-pub use forms::{put_form, put_hex, put_text};
 use std::fmt;
 use std::marker::Model;
 
