@@ -61,7 +61,7 @@ impl<const N: usize> Line<N> {
     pub fn put_text(&mut self, text: &[u8])
         ensures { self.new ≡ self.old ++ take (N - length self.old) text.now }
     {
-        let n = memory::least(text.len(), self.room());
+        let n = text.len().min(self.room());
         memory::put_bytes(&mut self.text, self.filled, &text[..n]);
         self.filled += n;
     }
@@ -70,7 +70,7 @@ impl<const N: usize> Line<N> {
     pub fn put_hex(&mut self, bytes: &[u8])
         ensures { self.new ≡ self.old ++ hex_of (take ((N - length self.old) / 2) bytes.now) }
     {
-        let n = memory::least(bytes.len(), self.room() / 2);
+        let n = bytes.len().min(self.room() / 2);
         self.filled = print_numbers::put_hex(&mut self.text, self.filled, &bytes[..n]);
     }
 
