@@ -1,7 +1,7 @@
 // How a program ends, and who hears of it.
 ghost use Rattle.std.specs.Prelude.{◌≡◌, ◌↔◌, ◌⊎◌, cond, IsTrue};
-ghost use Rattle.io_edge.specs.declared.status.Status.TheVariants.{Done, Refused};
 ghost use Rattle.io_edge.specs.Ends.{status_with};
+ghost use Rattle.io_edge.specs.declared.status.Failure.TheVariants.{NotDone};
 
 use crate::{ReadError, write_whole};
 use std::fs::{File, Files, OpenOptions};
@@ -62,7 +62,7 @@ impl Status {
 impl From<Failure> for Status {
     ghost from_gives = { λ failure status. status ≡ status_with failure };
 
-    fn from(failure: Failure) -> Status {
+    fn from(failure: Failure) -> Self {
         match failure {
             Failure::NotDone => Status::NotDone,
             Failure::Gone => Status::Gone,
@@ -72,8 +72,10 @@ impl From<Failure> for Status {
 
 // A read that failed was said.
 impl From<ReadError> for Failure {
-    fn from(_error: ReadError) -> Failure {
-        Failure::NotDone
+    ghost from_gives = { λ _ failure. failure ≡ NotDone };
+
+    fn from(_error: ReadError) -> Self {
+        Self::NotDone
     }
 }
 

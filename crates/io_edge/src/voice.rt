@@ -1,5 +1,5 @@
 // Lines on standard error.
-ghost use Rattle.std.specs.Prelude.{◌≤◌, length};
+ghost use Rattle.std.specs.Prelude.{◌≡◌, ◌≤◌, length};
 
 use crate::write_whole;
 use print_forms::Line;
@@ -18,7 +18,9 @@ pub struct Voice<'a> {
 
 impl Voice<'_> {
     // The same, of something else.
-    pub fn labelled<'b>(self, label: &'b [u8]) -> Voice<'b> {
+    pub fn labelled<'b>(self, label: &'b [u8]) -> Voice<'b>
+        ensures { result.label.now ≡ label.now }
+    {
         Voice {
             err: self.err,
             label,

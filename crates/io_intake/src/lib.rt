@@ -2,7 +2,8 @@
 // refused.
 #![tactic(auto)]
 
-ghost use Rattle.std.specs.Prelude.{◌≡◌, ◌≤◌, cond, length, IfOk};
+ghost use Rattle.std.specs.Prelude.{◌≡◌, ◌≤◌, ◌||◌, ◌++◌, cond, min, length, IfOk};
+ghost use Rattle.io_intake.specs.declared.Unread.TheVariants.{Failed};
 ghost use Rattle.io_edge.specs.Counts.{IsPrefixLen};
 
 use io_edge::{Failure, ReadError, Source, Voice};
@@ -40,7 +41,9 @@ pub enum Unread {
 
 impl Unread {
     // In one line on standard error: the system's reason, or where the text is wrong.
-    pub fn said(self, voice: Voice) -> Failure {
+    pub fn said(self, voice: Voice) -> Failure
+        ensures { result ≡ Failure.NotDone }
+    {
         match self {
             Unread::Failed(why) => voice.say_failed(why),
             Unread::Wrong {
@@ -54,12 +57,16 @@ impl Unread {
 }
 
 impl From<io::Error> for Unread {
+    ghost from_gives = { λ why unread. unread ≡ Failed why };
+
     fn from(why: io::Error) -> Self {
         Unread::Failed(why)
     }
 }
 
 impl From<ReadError> for Unread {
+    ghost from_gives = { λ error unread. unread ≡ Failed error.why };
+
     fn from(error: ReadError) -> Self {
         Unread::Failed(error.why)
     }
@@ -74,14 +81,18 @@ pub struct Job<'a> {
 
 // Where the order begins behind the chip record.
 pub fn chip_end(job: &[u8]) -> usize
-    ensures { IsPrefixLen result job.now }
+    ensures within { IsPrefixLen result job.now }
+    ensures chip { result ≡ min CHIP_SIZE (length job.now) }
 {
     CHIP_SIZE.min(job.len())
 }
 
 impl<'a> Job<'a> {
     // Its chip record, and its order.
-    pub fn parts(self) -> (&'a [u8], &'a [u8]) {
+    pub fn parts(self) -> (&'a [u8], &'a [u8])
+        ensures whole { result.0.now ++ result.1.now ≡ self.entry.bytes.now }
+        ensures chip { length result.0.now ≡ min CHIP_SIZE (length self.entry.bytes.now) }
+    {
         self.bytes.split_at(chip_end(self.bytes))
     }
 
@@ -184,7 +195,8 @@ pub fn take_source<'a>(
 ) -> Result<Job<'a>, Failure>
     requires { length lines.old ≡ length room.old }
     ensures bytes { IfOk result (λ job. length job.bytes.now ≤ length room.old) }
-    ensures lines { IfOk result (λ job. length job.lines.now ≤ length job.bytes.now) }
+    ensures lines { IfOk result (λ job. length job.lines.now
+        ≡ cond (hex || source.old.is_text) (length job.bytes.now) 0) }
 {
     let is_text = hex || source.is_text;
     let voice = source.voice;
