@@ -1,5 +1,4 @@
 -- Parts of stored bytes, place sums, and runs of bytes.
 pub mod Numbers
-pub mod Parts
 pub mod Places
 pub mod Runs

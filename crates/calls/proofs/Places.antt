@@ -2,13 +2,6 @@
 use Rattle.std.proofs.Common.{◌≡◌, ℕ, ◌+◌, ◌*◌, ◌<◌, ◌≤◌, List, length, get_or, drop, mul-le-mul, zero-add, add-one, arith, drop_of_length-le, drop-cons}
 use Rattle.calls.specs.Sums.{sum_from, place_sum}
 
--- a place of up to 12,480 times a byte
-pub weight_most : (i b : ℕ) → i < 12480 → b < 256 → (i + 1) * b ≤ 3182400
-weight_most i b p q =
-    let h : i + 1 ≤ 12480 = omega arith in
-    let k : b ≤ 255 = omega arith in
-    mul-le-mul h k
-
 -- all of it is behind the start
 pub sum_first : (s : List ℕ) → place_sum s ≡ 0 + sum_from 1 s
 sum_first s = rw zero-add

@@ -35,54 +35,30 @@ fn put_life(b: &mut [u8], life: Life)
 }
 
 // An open value: its byte, its tag, how many bytes are there and how many are missing.
-#[derive(Clone, Copy)]
-struct Span {
-    kind: u8,
-    tag: u16,
-    count: usize,
-    missing: usize,
+fn put_span(b: &mut [u8], kind: u8, tag: u16, count: usize, missing: usize)
+    requires { length b.old ≡ 1050 }
+    ensures { Puts b.old 68 (span_bytes kind tag count missing) 19 b.new }
+{
+    put(b, OPEN_KIND, [kind]);
+    put(b, OPEN_TAG, tag.to_be_bytes());
+    put(b, OPEN_COUNT, (count as u64).to_be_bytes());
+    put(b, OPEN_MISSING, (missing as u64).to_be_bytes());
 }
 
 // Where no value is open all of it is zero, and '3100' has no tag here.
-fn span_of(pending: Open) -> Span
-    ensures { span_bytes result.kind result.tag result.count result.missing ≡ open_bytes pending }
+fn put_open(b: &mut [u8], pending: Open)
+    requires { length b.old ≡ 1050 }
+    ensures { Puts b.old 68 (open_bytes pending) 19 b.new }
 {
     match pending {
-        Open::Shut => Span {
-            kind: OPEN_NONE,
-            tag: 0,
-            count: 0,
-            missing: 0,
-        },
-        Open::Table { held, missing } => Span {
-            kind: OPEN_TABLE,
-            tag: 0,
-            count: held,
-            missing,
-        },
+        Open::Shut => put_span(b, OPEN_NONE, 0, 0, 0),
+        Open::Table { held, missing } => put_span(b, OPEN_TABLE, 0, held, missing),
         Open::Record {
             tag,
             written,
             missing,
-        } => Span {
-            kind: OPEN_RECORD,
-            tag,
-            count: written,
-            missing,
-        },
+        } => put_span(b, OPEN_RECORD, tag, written, missing),
     }
-}
-
-// That of the open value.
-fn put_span(b: &mut [u8], s: Span)
-    requires { length b.old ≡ 1050 }
-    ensures { Puts b.old 68 (span_bytes s.kind s.tag s.count s.missing) 19
-        b.new }
-{
-    put(b, OPEN_KIND, [s.kind]);
-    put(b, OPEN_TAG, s.tag.to_be_bytes());
-    put(b, OPEN_COUNT, (s.count as u64).to_be_bytes());
-    put(b, OPEN_MISSING, (s.missing as u64).to_be_bytes());
 }
 
 // How far the loading is.
@@ -93,7 +69,7 @@ fn put_running(b: &mut [u8], p: Running)
     put(b, INTERNAL, [p.internal]);
     put(b, ROWS, p.rows.to_be_bytes());
     put(b, LAST, p.last.to_be_bytes());
-    put_span(b, span_of(p.pending));
+    put_open(b, p.pending);
 }
 
 // A descriptor as document 01 stores it.

@@ -25,10 +25,10 @@ fn weight(i: usize, b: u8) -> usize
     requires { i < 12480 }
     ensures { (result ≡ (i + 1) * b) × (result ≤ 3182400) }
 {
-    (i + 1) * memory::wide(b)
+    (i + 1) * b as usize
 }
 
-// The place sum of memory.
+// The place sum of memory. That of `io_playing` is of an area alone, and what it promises is a bound.
 fn place_sum(bytes: &[u8]) -> usize
     requires { length bytes.now ≤ 12480 }
     ensures { result ≡ place_sum bytes.now }

@@ -9,6 +9,9 @@ use crate::lines::{
 use model::Card;
 use std::fmt;
 
+// What became of a call's line, or the fault for which there is none.
+type Told = Result<fmt::Result, Fault>;
+
 // One event.
 fn play_on(
     out: &mut Lines,
@@ -24,7 +27,7 @@ fn play_on(
 }
 
 // Card, area, answer buffer, record.
-fn make_play(out: &mut Lines, input: &mut Input) -> Result<fmt::Result, Fault> {
+fn make_play(out: &mut Lines, input: &mut Input) -> Told {
     let c = input.take_card()?;
     let mut area = [0u8; MEMORY_LIMIT];
     let n = input.take_memory(&mut area)?;
@@ -50,7 +53,7 @@ fn run_on(
 }
 
 // Card, area, session, words.
-fn make_run(out: &mut Lines, input: &mut Input) -> Result<fmt::Result, Fault> {
+fn make_run(out: &mut Lines, input: &mut Input) -> Told {
     let c = input.take_card()?;
     let mut area = [0u8; MEMORY_LIMIT];
     let n = input.take_memory(&mut area)?;
@@ -70,7 +73,7 @@ fn shown_on(out: &mut Lines, c: Card, area: &[u8], sfi: u8, nn: u8) -> fmt::Resu
 }
 
 // Card, area, SFI, nn.
-fn make_shown(out: &mut Lines, input: &mut Input) -> Result<fmt::Result, Fault> {
+fn make_shown(out: &mut Lines, input: &mut Input) -> Told {
     let c = input.take_card()?;
     let mut area = [0u8; MEMORY_LIMIT];
     let n = input.take_memory(&mut area)?;
@@ -79,13 +82,13 @@ fn make_shown(out: &mut Lines, input: &mut Input) -> Result<fmt::Result, Fault> 
 }
 
 // The rows of a set.
-fn make_count(out: &mut Lines, input: &mut Input) -> Result<fmt::Result, Fault> {
+fn make_count(out: &mut Lines, input: &mut Input) -> Told {
     let rows = u16::from_be_bytes(input.take_array()?);
     Ok(put_count(out, face::count(rows)))
 }
 
 // The fresh card of a chip record.
-fn make_fresh(out: &mut Lines, input: &mut Input) -> Result<fmt::Result, Fault> {
+fn make_fresh(out: &mut Lines, input: &mut Input) -> Told {
     let mut chip = [0u8; MEMORY_LIMIT];
     let n = input.take_memory(&mut chip)?;
     let x = face::fresh(&chip[..n]);
@@ -101,7 +104,7 @@ fn write_on(out: &mut Lines, chip: &[u8], order: &[u8], room: &mut [u8]) -> fmt:
 }
 
 // Chip record, order, room.
-fn make_write(out: &mut Lines, input: &mut Input) -> Result<fmt::Result, Fault> {
+fn make_write(out: &mut Lines, input: &mut Input) -> Told {
     let mut chip = [0u8; MEMORY_LIMIT];
     let n = input.take_memory(&mut chip)?;
     let mut order = [0u8; MEMORY_LIMIT];
@@ -120,14 +123,14 @@ fn pull_on(out: &mut Lines, order: &[u8], place: usize) -> fmt::Result
 }
 
 // Order, place.
-fn make_pull(out: &mut Lines, input: &mut Input) -> Result<fmt::Result, Fault> {
+fn make_pull(out: &mut Lines, input: &mut Input) -> Told {
     let mut order = [0u8; MEMORY_LIMIT];
     let n = input.take_memory(&mut order)?;
     let place = u64::from_be_bytes(input.take_array()?) as usize;
     Ok(pull_on(out, &order[..n], place))
 }
 
-// A call and its line, which has room.
+// A call and its line. A line refuses nothing that it has room for.
 pub fn make(call: Call, out: &mut Lines, input: &mut Input) -> Result<(), Fault> {
     let _ = match call {
         Call::Play => make_play(out, input)?,

@@ -2,12 +2,9 @@
 // hexadecimal, numbers. What there is no room for is left out.
 #![tactic(auto)]
 
-mod forms;
-
 ghost use Rattle.std.specs.Prelude.{◌≡◌, ◌+◌, ◌-◌, ◌/◌, ◌<◌, ◌≤◌, [], ◌++◌, length, take};
 ghost use Rattle.print_numbers.specs.Trace.{decimal_of, hex_of};
 
-pub use forms::{put_form, put_hex, put_text};
 use std::fmt;
 use std::marker::Model;
 
@@ -64,7 +61,7 @@ impl<const N: usize> Line<N> {
     pub fn put_text(&mut self, text: &[u8])
         ensures { self.new ≡ self.old ++ take (N - length self.old) text.now }
     {
-        let n = memory::least(text.len(), self.room());
+        let n = text.len().min(self.room());
         memory::put_bytes(&mut self.text, self.filled, &text[..n]);
         self.filled += n;
     }
@@ -73,7 +70,7 @@ impl<const N: usize> Line<N> {
     pub fn put_hex(&mut self, bytes: &[u8])
         ensures { self.new ≡ self.old ++ hex_of (take ((N - length self.old) / 2) bytes.now) }
     {
-        let n = memory::least(bytes.len(), self.room() / 2);
+        let n = bytes.len().min(self.room() / 2);
         self.filled = print_numbers::put_hex(&mut self.text, self.filled, &bytes[..n]);
     }
 

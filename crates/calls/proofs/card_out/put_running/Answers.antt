@@ -1,4 +1,4 @@
--- `calls::put_running`: each run ends where the next begins (`puts_then`); `span_of` tells the last.
+-- `calls::put_running`: each run ends where the next begins (`puts_then`).
 use Rattle.std.proofs.Common.{refl, ◌∙◌, arith, rules}
 use Rattle.calls.proofs.Runs.{puts_then, puts_as}
 use Rattle.calls.proofs.Numbers.{two_out}
@@ -9,4 +9,4 @@ returns c =
     puts_then c.put.ensures
     (puts_then (puts_as c.put-2.ensures (c.to_be_bytes.ensures ∙ two_out _ (search rules)))
     (puts_then (puts_as c.put-3.ensures (c.to_be_bytes-2.ensures ∙ two_out _ (search rules)))
-    (puts_as c.put_span.ensures c.span_of.ensures) refl) refl) refl
+    c.put_open.ensures refl) refl) refl

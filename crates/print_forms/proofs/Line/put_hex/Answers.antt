@@ -7,5 +7,5 @@ pub returns : goal.returns
 returns g c =
     let l = c.self in
     let p = c.put_hex-self-inside.ensures in
-    rw (p.2, p.0, length-take-le c.least-n.result c.args.bytes.now (omega (arith, c.least-n.ensures)))
-    (hex_behind l.inside.text _ l.inside.filled g.row.N l.view_is l.invariant l.told _ c.room.ensures _ _ c.least-n.ensures)
+    rw (p.2, p.0, length-take-le c.min-n.result c.args.bytes.now (omega (arith, c.min-n.ensures)))
+    (hex_behind l.inside.text _ l.inside.filled g.row.N l.view_is l.invariant l.told _ c.room.ensures _ _ c.min-n.ensures)

@@ -6,4 +6,4 @@ pub returns : goal.returns
 returns g c =
     let l = c.self in
     rw c.put_bytes.ensures (text_behind l.inside.text _ l.inside.filled g.row.N l.view_is l.invariant l.told
-    _ c.room.ensures _ _ c.least-n.ensures)
+    _ c.room.ensures _ _ c.min-n.ensures)
