@@ -6,7 +6,7 @@ use io_edge::{Failure, Source};
 const WINDOW_SIZE: usize = 4352;
 
 // Names that a separator ends, in a window of what was read: the next begins at `at`, and the window is filled up to
-// `filled`.
+// `filled`. Fixed memory and counts, since there is no heap and a `Line` can't be read into.
 #[derive(Drop)]
 pub struct Names<'a> {
     source: Source<'a>,
