@@ -11,6 +11,7 @@ ghost use Rattle.std.specs.Prelude.{◌≡◌, ◌≤◌, length};
 
 use io_edge::{Arguments, Failure, Label, Page, Source, Stream, Voice};
 use io_intake::{JOB_SIZE, Job, RECORDS_SIZE};
+use job_register::Entry;
 use line::{Ending, put_line};
 use model::{AREA_SIZE, END_SIZE, LINE_SIZE};
 use names::Names;
@@ -49,6 +50,16 @@ struct Target<'a, R> {
 // A register into its part, which is closed then.
 fn put_part(mut part: File, register: &[u8]) -> io::Result<()> {
     io_edge::write_whole(&mut part, register)
+}
+
+// A job's register. What that takes is off the stack before a register is stored or a refusal said.
+fn made(job: Job, out: &mut [u8]) -> Entry
+    ensures { result.events ≤ 47 }
+{
+    let (chip, order) = job.parts();
+    let mut room = [0u8; RECORDS_SIZE];
+    let mut area = [0u8; AREA_SIZE];
+    job_register::enter_job(chip, order, &mut room, &mut area, out)
 }
 
 impl<R: Files<File = File>> Target<'_, R> {
@@ -99,11 +110,8 @@ impl<R: Files<File = File>> Target<'_, R> {
     // A job that was read: its register is stored; or it is refused, which is said. One that was not entered has no
     // register from now on.
     fn enter(&self, voice: Voice, job: Job) -> Result<Ending, Failure> {
-        let (chip, order) = job.parts();
-        let mut room = [0u8; RECORDS_SIZE];
-        let mut area = [0u8; AREA_SIZE];
         let mut out = [0u8; REGISTER_SIZE];
-        let entry = job_register::enter_job(chip, order, &mut room, &mut area, &mut out);
+        let entry = made(job, &mut out);
         let number = entry.number;
         if number != 0 {
             let why = job.say_refused(voice, number);
@@ -246,7 +254,7 @@ impl<'a, R: Files<File = File>> Lot<'a, R> {
         let mut lines = [0u32; JOB_SIZE];
         for _ in 0..u64::MAX {
             self.pass_on(page, names.waits())?;
-            let Some(name) = names.next()? else {
+            let Some(name) = names.read_next()? else {
                 return self.tally.print(page);
             };
             self.turn(name, &mut room, &mut lines);

@@ -79,7 +79,7 @@ impl<'a> Names<'a> {
     }
 
     // The next name; none at the input's end.
-    pub fn next(&mut self) -> Result<Option<&[u8]>, Failure> {
+    pub fn read_next(&mut self) -> Result<Option<&[u8]>, Failure> {
         let Some(n) = self.next_len()? else {
             return Ok(None);
         };
