@@ -1,5 +1,5 @@
 -- Numbers of more than one byte: the library's bytes of a number are those of `Numbers`, and its number of bytes too.
-use Rattle.std.proofs.Common.{◌≡◌, refl, ℕ, Bool, true, false, cond, ◌+◌, ◌*◌, ◌/◌, ◌%◌, ◌<◌, ◌^◌, List, [], ◌∷◌, ◌∙◌, arith}
+use Rattle.std.proofs.Common.{◌≡◌, refl, ℕ, Bool, true, false, cond, ◌+◌, ◌*◌, ◌<◌, ◌^◌, List, [], ◌∷◌, arith}
 use Rattle.std.proofs.lemmas.List.{get_or-take, get_or-drop}
 use Rattle.std.specs.List.{slice_index}
 use Rattle.std.specs.Int.{w16, w32, w64, from_be_bytes, from_bool, to_be_bytes}

@@ -1,5 +1,5 @@
 -- Place sums, byte by byte.
-use Rattle.std.proofs.Common.{◌≡◌, ℕ, ◌+◌, ◌*◌, ◌<◌, ◌≤◌, List, length, get_or, drop, mul-le-mul, zero-add, add-one, arith, drop_of_length-le, drop-cons}
+use Rattle.std.proofs.Common.{◌≡◌, ℕ, ◌+◌, ◌*◌, ◌<◌, ◌≤◌, List, length, get_or, drop, zero-add, add-one, drop_of_length-le, drop-cons}
 use Rattle.calls.specs.Sums.{sum_from, place_sum}
 
 -- all of it is behind the start

@@ -1,5 +1,5 @@
 -- `calls::put_facts`: each run ends where the next begins (`puts_then`).
-use Rattle.std.proofs.Common.{refl, ◌∙◌, arith, rules}
+use Rattle.std.proofs.Common.{refl, ◌∙◌, rules}
 use Rattle.calls.proofs.Runs.{puts_then, puts_as}
 use Rattle.calls.proofs.Numbers.{four_out, eight_out}
 use Rattle.calls.proofs.card_out.put_facts.Goals as goal

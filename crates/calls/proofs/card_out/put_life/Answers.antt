@@ -1,5 +1,5 @@
 -- `calls::put_life`: each run ends where the next begins (`puts_then`).
-use Rattle.std.proofs.Common.{ℕ, ◌∷◌, [], ap, refl, ◌∙◌, arith, rules}
+use Rattle.std.proofs.Common.{ℕ, ◌∷◌, [], ap, refl, ◌∙◌, rules}
 use Rattle.calls.proofs.Runs.{puts_then, puts_as}
 use Rattle.calls.proofs.Numbers.{eight_out, flag_is}
 use Rattle.calls.proofs.card_out.put_life.Goals as goal

@@ -1,5 +1,5 @@
 -- `calls::put_running`: each run ends where the next begins (`puts_then`).
-use Rattle.std.proofs.Common.{refl, ◌∙◌, arith, rules}
+use Rattle.std.proofs.Common.{refl, ◌∙◌, rules}
 use Rattle.calls.proofs.Runs.{puts_then, puts_as}
 use Rattle.calls.proofs.Numbers.{two_out}
 use Rattle.calls.proofs.card_out.put_running.Goals as goal

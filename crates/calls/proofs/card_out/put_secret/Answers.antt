@@ -1,5 +1,5 @@
 -- `calls::put_secret`: the length lies behind the 64 bytes (`puts_then`).
-use Rattle.std.proofs.Common.{refl, ◌∙◌, arith, rules}
+use Rattle.std.proofs.Common.{refl, ◌∙◌, rules}
 use Rattle.calls.proofs.Runs.{puts_then, puts_as}
 use Rattle.calls.proofs.Numbers.{eight_out}
 use Rattle.calls.proofs.card_out.put_secret.Goals as goal
