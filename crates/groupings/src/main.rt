@@ -92,8 +92,8 @@ impl Lines<'_> {
         Ok(())
     }
 
-    // The lines of the groupings that are whole in a window. How much of it they use up. No `for`: a grouping tells where
-    // the next begins.
+    // The lines of the groupings that are whole in a window. How much of it they use up. No `for`: a grouping tells
+    // where the next begins.
     fn print_whole(&mut self, order: &[u8]) -> Result<usize, Failure>
         ensures { IfOk result (λ used. used ≤ length order.now) }
     {
@@ -174,7 +174,7 @@ enum Input {
     Ended,
 }
 
-// The front of what is read and not used up. Fixed memory and a count, since there is no heap and a `Line` can't be read
+// The front of what is read and not used up. Fixed memory and a count: there is no heap, and a `Line` can't be read
 // into.
 #[derive(Drop)]
 struct Window<'a> {

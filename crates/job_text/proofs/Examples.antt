@@ -30,7 +30,8 @@ unfolding given fault sort_of place_from bytes_from lines_from
 comment_at_the_end = refl
 
 -- `12`, a line feed, ` 3 4`: half a byte at line 2, column 2
-half_a_byte : text_of (0x31 ∷ 0x32 ∷ 0x0A ∷ 0x20 ∷ 0x33 ∷ 0x20 ∷ 0x34 ∷ []) ≡ given (0x12 ∷ []) (1 ∷ []) (fault HalfByte 2 2)
+half_a_byte : text_of (0x31 ∷ 0x32 ∷ 0x0A ∷ 0x20 ∷ 0x33 ∷ 0x20 ∷ 0x34 ∷ [])
+    ≡ given (0x12 ∷ []) (1 ∷ []) (fault HalfByte 2 2)
 unfolding given fault sort_of place_from bytes_from lines_from
 half_a_byte = refl
 

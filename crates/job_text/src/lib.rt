@@ -13,8 +13,8 @@ ghost use Rattle.job_text.specs.Text.{begun, reached, laid_bytes, laid_lines, en
 // No digit's value.
 const NO_VALUE: u8 = 0x10;
 
-// At each character the value of the digit that it is, or `NO_VALUE`. A table and no `match`: no processor foresees which
-// digits are letters (docs/DECISIONS.md).
+// At each character the value of the digit that it is, or `NO_VALUE`. A table and no `match`: no processor foresees
+// which digits are letters (docs/DECISIONS.md).
 const VALUES: [u8; 256] = *b"\
     \x10\x10\x10\x10\x10\x10\x10\x10\x10\x10\x10\x10\x10\x10\x10\x10\
     \x10\x10\x10\x10\x10\x10\x10\x10\x10\x10\x10\x10\x10\x10\x10\x10\
@@ -277,9 +277,9 @@ impl Reading {
     }
 
     // The next characters of a text: their bytes are laid into `out` behind those of the reading, and the line of each
-    // at the same place of `lines`. Bytes for which there is no room are dropped. Two arrays and a count of both, since
-    // the theorems `blocks_bytes`, `blocks_lines`, `whole_bytes` and `whole_lines` speak of each; and no `for`, since a
-    // turn takes one character or two.
+    // at the same place of `lines`. Bytes for which there is no room are dropped. Two arrays and a count of both: the
+    // theorems `blocks_bytes`, `blocks_lines`, `whole_bytes` and `whole_lines` speak of each. No `for`: a turn takes
+    // one character or two.
     pub fn read(self, chars: &[u8], out: &mut [u8], lines: &mut [u32]) -> Reading
         requires { (length lines.old ≡ length out.old) × (self.count ≤ length out.old) }
         ensures { (result ≡ reached (length out.old) self chars.now)

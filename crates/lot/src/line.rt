@@ -6,8 +6,8 @@ use reason_why::Why;
 use std::fmt;
 use std::fmt::{Display, Formatter, Write};
 
-// How a job ended: entered; its register stood and was whole, with so many events; refused by a number; not done, where
-// a text's fault has a line and a column.
+// How a job ended: entered; its register stood and was whole, with so many events; refused by a number; not done,
+// where a text's fault has a line and a column.
 #[derive(Clone, Copy)]
 pub enum Ending {
     Entered(Entry),

@@ -9,7 +9,7 @@ mod paths;
 
 ghost use Rattle.std.specs.Prelude.{◌≡◌, ◌≤◌, length};
 
-use io_edge::{Arguments, Failure, Label, Page, Source, Stream, Voice};
+use io_edge::{Failure, Label, Page, Source, Stream, Voice};
 use io_intake::{JOB_SIZE, Job, RECORDS_SIZE};
 use job_register::Entry;
 use line::{Ending, put_line};
@@ -263,6 +263,10 @@ impl<'a, R: Files<File = File>> Lot<'a, R> {
     }
 }
 
+fn say_usage(voice: Voice) {
+    voice.say(b"usage: lot [-0] [--resume] [--part K/N] OUT, a name of at most 1,024 bytes\n");
+}
+
 fn main(rt: HostRuntime) {
     let voice = Voice {
         err: rt.stderr(),
@@ -272,12 +276,12 @@ fn main(rt: HostRuntime) {
         out: rt.stdout(),
         voice: voice.labelled(b"lot: standard output"),
     };
-    let mut arguments = Arguments::new(&rt, voice);
+    let Some((options, arguments)) = read_options(&rt, voice) else {
+        return say_usage(voice);
+    };
     let mut folder = [0u8; FOLDER_SIZE];
-    let options = read_options(&mut arguments);
-    let (Some(options), Some(n @ 1..)) = (options, arguments.copy_next(&mut folder)) else {
-        voice.say(b"usage: lot [-0] [--resume] [--part K/N] OUT, a name of at most 1,024 bytes\n");
-        return;
+    let Some(n @ 1..) = arguments.copy_next(&mut folder) else {
+        return say_usage(voice);
     };
     let source = Source {
         from: Stream::Standard(rt.stdin()),

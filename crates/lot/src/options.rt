@@ -1,7 +1,7 @@
 // What the program was started with: `[-0] [--resume] [--part K/N] OUT`.
 ghost use Rattle.std.specs.Prelude.{◌<◌, ◌≤◌};
 
-use io_edge::Arguments;
+use io_edge::{Arguments, Voice};
 use std::env::Env;
 use std::fs::{File, Files};
 
@@ -72,15 +72,18 @@ fn read_part<R: Env + Files<File = File>>(arguments: &mut Arguments<R>) -> Optio
     Part::parse(&word[..n])
 }
 
-// The options, in this order; the folder is next behind them. None where a part is not told right.
-pub fn read_options<R: Env + Files<File = File>>(arguments: &mut Arguments<R>) -> Option<Options>
-    requires { arguments.old.next ≤ 1 }
-{
+// The options, in this order, and the arguments from the folder on. None where a part is not told right.
+pub fn read_options<'a, R: Env + Files<File = File>>(
+    rt: &'a R,
+    voice: Voice<'a>,
+) -> Option<(Options, Arguments<'a, R>)> {
+    let mut arguments = Arguments::new(rt, voice);
     let zero = arguments.take_option(b"-0");
     let resume = arguments.take_option(b"--resume");
     let mut part = Part::whole();
     if arguments.take_option(b"--part") {
-        part = read_part(arguments)?;
+        part = read_part(&mut arguments)?;
     }
-    Some(Options { zero, resume, part })
+    let options = Options { zero, resume, part };
+    Some((options, arguments))
 }

@@ -1,5 +1,5 @@
--- `groupings::Lines::print_whole`: a grouping that is found ends further on and within the order (`found_ahead`), so that
--- less is left each turn.
+-- `groupings::Lines::print_whole`: a grouping that is found ends further on and within the order (`found_ahead`), so
+-- that less is left each turn.
 use Rattle.std.proofs.Common.{arith}
 use Rattle.groupings.proofs.Moves.{found_ahead}
 use Rattle.groupings.proofs.Lines.print_whole.Goals as goal

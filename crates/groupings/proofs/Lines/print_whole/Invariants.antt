@@ -1,5 +1,5 @@
--- `groupings::Lines::print_whole`: a grouping that is found ends further on and within the order (`found_ahead`), so that
--- less is left each turn.
+-- `groupings::Lines::print_whole`: a grouping that is found ends further on and within the order (`found_ahead`), so
+-- that less is left each turn.
 use Rattle.std.proofs.Common.{◌-◌, ◌≤◌, length}
 use Rattle.groupings.proofs.Lines.print_whole.Given as goal
 

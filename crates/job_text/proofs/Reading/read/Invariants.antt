@@ -1,5 +1,5 @@
--- `job_text::Reading::read`: the place, the count, the bytes and the lines are those that the characters before the rest
--- leave (`Before`). A turn reads two characters (`laid_two`) or one (`laid_turn`).
+-- `job_text::Reading::read`: the place, the count, the bytes and the lines are those that the characters before the
+-- rest leave (`Before`). A turn reads two characters (`laid_two`) or one (`laid_turn`).
 use Rattle.std.proofs.Common.{length}
 use Rattle.job_text.proofs.Runs.{Before}
 use Rattle.job_text.proofs.Reading.read.Given as goal
