@@ -9,8 +9,6 @@ use io_edge::{Arguments, Failure, Label, Page, Source, Status, Voice, listener, 
 use job_text::{Fault, Mode, Place, Reading};
 use model::{CHIP_SIZE, Header};
 use print_forms::Line;
-use std::env::Env;
-use std::fs::{File, Files};
 use std::io::{Stdin, Stdout};
 
 // A value of up to so many bytes is printed only when it is whole: it fits a window with its header.
@@ -327,8 +325,8 @@ fn print(window: &mut Window, lines: &mut Lines) -> Result<Status, Failure> {
 }
 
 // How the groupings are printed of what the arguments name.
-fn run<R: Env + Files<File = File>>(
-    arguments: Arguments<R>,
+fn run(
+    arguments: Arguments,
     stdin: Stdin,
     out: Stdout,
     is_job: bool,

@@ -8,7 +8,7 @@ use crate::voice::Voice;
 use crate::{ReadError, read_labelled};
 use print_forms::Line;
 use std::env::{Env, FillError};
-use std::fs::{File, Files};
+use std::fs::File;
 use std::io;
 use std::io::{Read, Stdin};
 
@@ -61,16 +61,17 @@ impl Source<'_> {
 // The system's number of the reason that a name is too long.
 const ENAMETOOLONG: i32 = 36;
 
-// The arguments from the next on, and the program's voice, as `replay: `.
+// The arguments from the next on, and the program's voice, as `replay: `. The runtime by its name: under a bound `Env` a
+// program's proof would rest on four more functions of C, which none calls.
 #[derive(Drop)]
-pub struct Arguments<'a, R> {
-    pub rt: &'a R,
+pub struct Arguments<'a> {
+    pub rt: &'a HostRuntime,
     pub voice: Voice<'a>,
     pub next: usize,
 }
 
-impl<'a, R: Env> Arguments<'a, R> {
-    pub fn new(rt: &'a R, voice: Voice<'a>) -> Arguments<'a, R>
+impl<'a> Arguments<'a> {
+    pub fn new(rt: &'a HostRuntime, voice: Voice<'a>) -> Arguments<'a>
         ensures { result.next ≡ 1 }
     {
         Arguments { rt, voice, next: 1 }
@@ -107,9 +108,7 @@ impl<'a, R: Env> Arguments<'a, R> {
             Err(FillError::NotPresent) => false,
         }
     }
-}
 
-impl<R: Env + Files<File = File>> Arguments<'_, R> {
     // What the next argument names, or standard input where there is none; nothing may follow. The label is the
     // program's and the file's name.
     pub fn open_last<'b>(&self, stdin: Stdin, label: &'b mut Label) -> Result<Source<'b>, Failure>

@@ -2,8 +2,6 @@
 ghost use Rattle.std.specs.Prelude.{◌<◌, ◌≤◌};
 
 use io_edge::{Arguments, Voice};
-use std::env::Env;
-use std::fs::{File, Files};
 
 const WORD_SIZE: usize = 16;
 
@@ -63,7 +61,7 @@ pub struct Options {
     pub part: Part,
 }
 
-fn read_part<R: Env + Files<File = File>>(arguments: &mut Arguments<R>) -> Option<Part>
+fn read_part(arguments: &mut Arguments) -> Option<Part>
     requires { arguments.old.next ≤ 8 }
 {
     let mut word = [0u8; WORD_SIZE];
@@ -73,10 +71,7 @@ fn read_part<R: Env + Files<File = File>>(arguments: &mut Arguments<R>) -> Optio
 }
 
 // The options, in this order, and the arguments from the folder on. None where a part is not told right.
-pub fn read_options<'a, R: Env + Files<File = File>>(
-    rt: &'a R,
-    voice: Voice<'a>,
-) -> Option<(Options, Arguments<'a, R>)> {
+pub fn read_options<'a>(rt: &'a HostRuntime, voice: Voice<'a>) -> Option<(Options, Arguments<'a>)> {
     let mut arguments = Arguments::new(rt, voice);
     let zero = arguments.take_option(b"-0");
     let resume = arguments.take_option(b"--resume");
