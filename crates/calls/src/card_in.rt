@@ -89,8 +89,8 @@ fn files_in(b: &[u8]) -> [Descriptor; 31]
     ensures { result ≡ files_from 31 b.now }
 {
     let mut files = [descriptor_in(b, FILES); 31];
-    for i in 0..TABLE_LIMIT {
-        files[i] = descriptor_in(b, FILES + DESCRIPTOR_SIZE * i);
+    for (i, d) in files.iter_mut().enumerate() {
+        *d = descriptor_in(b, FILES + DESCRIPTOR_SIZE * i);
     }
     files
 }

@@ -141,8 +141,8 @@ impl Input<'_> {
         let mut bytes = [0u8; 2 * WORD_LIMIT];
         let n = self.take_length(WORD_LIMIT)?;
         self.take(&mut bytes[..2 * n])?;
-        for i in 0..n {
-            words[i] = u16::from_be_bytes(array(&bytes, 2 * i));
+        for (w, b) in words.iter_mut().zip(bytes.chunks_exact(2)) {
+            *w = u16::from_be_bytes(array(b, 0));
         }
         Ok(n)
     }

@@ -1,4 +1,4 @@
-// What is written: text that is gathered before it goes to standard output, and words that several texts have.
+// What is written: text that goes to standard output line by line, and words that several texts have.
 use io_edge::{Failure, Page};
 use print_forms::Line;
 use std::fmt;
@@ -49,6 +49,10 @@ impl Write for Text<'_> {
                 self.flush()?;
             }
             self.line.put_text(part);
+        }
+        // A reader that has gone is seen before the last line.
+        if s.as_bytes().contains(&b'\n') {
+            self.flush()?;
         }
         Ok(())
     }

@@ -13,11 +13,11 @@ loop-i-preserved c =
     let l = c.loop-i in
     let h : l.i ≤ 30 = search rules in (
       search rules,
-      rw (add-one, take-suc-set l.files l.i _ (omega arith), l.invariant.1, c.descriptor_in.ensures),
+      rw (add-one, take-suc-set l.d-items l.i _ (omega arith), l.invariant.1, c.descriptor_in.ensures),
     )
 
 pub returns : goal.returns
 returns c =
     let l = c.loop-i in
     let e : l.i ≡ 31 = search rules in
-    sym (take_all 31 l.files (search rules)) ∙ (rw e at l.invariant.1)
+    sym (take_all 31 l.d-items (search rules)) ∙ (rw e at l.invariant.1)

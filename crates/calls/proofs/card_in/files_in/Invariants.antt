@@ -4,4 +4,4 @@ use Rattle.calls.specs.Cards.{files_from}
 use Rattle.calls.proofs.card_in.files_in.Given as goal
 
 abbrev pub invariant-loop-i : goal.invariant-loop-i
-invariant-loop-i l = (length l.files ≡ 31) × (take l.i l.files ≡ files_from l.i l.b)
+invariant-loop-i l = (length l.d-items ≡ 31) × (take l.i l.d-items ≡ files_from l.i l.b)
