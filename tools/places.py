@@ -70,14 +70,18 @@ def point_1():
     yield from found(r"-> u8\b[^{;]*\{", re.M | re.S)
 
 
+def shared(groups, least):
+    for places in groups.values():
+        if least <= len(places):
+            yield from places
+
+
 def point_2():
     shapes = collections.defaultdict(list)
     for name, at, what, text in functions():
         if len(body(text).splitlines()) > 3 or "[0" in text:
             shapes[shape(text)].append((place(name, at), what))
-    for same in shapes.values():
-        if len(same) > 1:
-            yield from same
+    yield from shared(shapes, 2)
 
 
 def point_3():
@@ -101,18 +105,14 @@ def point_5():
             for fact in clause.split("×"):
                 fact = " ".join(fact.split()).strip(" ()")
                 facts[fact].append((place(name, at), f"{what}: {fact}"))
-    for fact, places in facts.items():
-        if len(places) > 2:
-            yield from places
+    yield from shared(facts, 3)
     groups = collections.defaultdict(list)
     for name, at, what, text in functions():
         head = re.search(r"fn \w+(?:<[^(]*>)?\((.*?)\)\s*(?:->|requires|ensures|\{|\n)", text, re.S)
         names = re.findall(r"(\w+):", head.group(1)) if head else []
         for i in range(len(names) - 3):
             groups[tuple(names[i:i + 4])].append((place(name, at), f"{what}: {', '.join(names[i:i + 4])}"))
-    for places in groups.values():
-        if len(places) > 2:
-            yield from places
+    yield from shared(groups, 3)
 
 
 def point_6():
