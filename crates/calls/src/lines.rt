@@ -1,4 +1,5 @@
-// The line of a call: everything that came back, and every lent byte afterwards. A field has a blank before it.
+// The line of a call: everything that came back, and every lent byte afterwards. A field has a blank before it. Behind
+// what stands there, so nothing of that goes.
 ghost use Rattle.std.specs.Prelude.{◌≡◌, ◌+◌, ◌*◌, ◌<◌, ◌≤◌, length};
 ghost use Rattle.calls.specs.Sums.{place_sum};
 
@@ -9,8 +10,6 @@ use crate::stored::CARD_SIZE;
 use model::{Card, Made, Played, Ran, Shown, Written};
 use order_reader::Found;
 use print_forms::Line;
-use std::fmt;
-use std::fmt::Write;
 
 // Room for lines: some are gathered before they are written.
 const LINES_SIZE: usize = 32_768;
@@ -41,34 +40,36 @@ fn place_sum(bytes: &[u8]) -> usize
 }
 
 // Short memory is all of its bytes, or a dash; longer memory its length and its place sum.
-fn put_memory(out: &mut Lines, bytes: &[u8]) -> fmt::Result
+fn put_memory(out: &mut Lines, bytes: &[u8])
     requires { length bytes.now ≤ 12480 }
+    ensures { length out.old ≤ length out.new }
 {
-    let n = bytes.len();
-    if n == 0 {
-        return write!(out, " -");
+    match bytes.len() {
+        0 => out.put_text(b" -"),
+        1..=SHORT => {
+            out.put_text(b" ");
+            out.put_hex(bytes);
+        }
+        n => out.put_form(format_args!(" {n}:{}", place_sum(bytes))),
     }
-    if n <= SHORT {
-        out.put_text(b" ");
-        out.put_hex(bytes);
-        return Ok(());
-    }
-    write!(out, " {n}:{}", place_sum(bytes))
 }
 
 // Words as memory, two bytes each.
-fn put_words(out: &mut Lines, words: &[u16]) -> fmt::Result
+fn put_words(out: &mut Lines, words: &[u16])
     requires { length words.now ≤ 64 }
+    ensures { length out.old ≤ length out.new }
 {
     let mut bytes = [0u8; 2 * WORD_LIMIT];
     for (i, w) in words.iter().enumerate() {
         put(&mut bytes, 2 * i, w.to_be_bytes());
     }
-    put_memory(out, &bytes[..2 * words.len()])
+    put_memory(out, &bytes[..2 * words.len()]);
 }
 
 // The bytes of a card.
-fn put_bytes_of(out: &mut Lines, c: Card) {
+fn put_bytes_of(out: &mut Lines, c: Card)
+    ensures { length out.old ≤ length out.new }
+{
     let mut bytes = [0u8; CARD_SIZE];
     put_card(&mut bytes, c);
     out.put_text(b" ");
@@ -76,66 +77,71 @@ fn put_bytes_of(out: &mut Lines, c: Card) {
 }
 
 // The line of `play`.
-pub fn put_played(out: &mut Lines, x: &Played, area: &[u8], answer: &[u8]) -> fmt::Result
+pub fn put_played(out: &mut Lines, x: &Played, area: &[u8], answer: &[u8])
     requires { (length area.now ≤ 12480) × (length answer.now ≤ 12480) }
+    ensures { length out.old ≤ length out.new }
 {
-    write!(out, "play {} {:04X} {}", x.number, x.word, x.answered)?;
+    out.put_form(format_args!("play {} {:04X} {}", x.number, x.word, x.answered));
     put_bytes_of(out, x.card);
-    put_memory(out, area)?;
-    put_memory(out, answer)?;
-    writeln!(out)
+    put_memory(out, area);
+    put_memory(out, answer);
+    out.put_text(b"\n");
 }
 
 // The line of `run`.
-pub fn put_ran(out: &mut Lines, x: &Ran, area: &[u8], words: &[u16]) -> fmt::Result
+pub fn put_ran(out: &mut Lines, x: &Ran, area: &[u8], words: &[u16])
     requires { (length area.now ≤ 12480) × (length words.now ≤ 64) }
+    ensures { length out.old ≤ length out.new }
 {
-    write!(out, "run {} {}", x.number, x.count)?;
+    out.put_form(format_args!("run {} {}", x.number, x.count));
     put_bytes_of(out, x.card);
-    put_memory(out, area)?;
-    put_words(out, words)?;
-    writeln!(out)
+    put_memory(out, area);
+    put_words(out, words);
+    out.put_text(b"\n");
 }
 
 // The line of `shown`.
-pub fn put_shown(out: &mut Lines, x: &Shown, part: &[u8]) -> fmt::Result
+pub fn put_shown(out: &mut Lines, x: &Shown, part: &[u8])
     requires { length part.now ≤ 12480 }
+    ensures { length out.old ≤ length out.new }
 {
-    write!(out, "shown {} {}", x.number, x.start)?;
-    put_memory(out, part)?;
-    writeln!(out)
+    out.put_form(format_args!("shown {} {}", x.number, x.start));
+    put_memory(out, part);
+    out.put_text(b"\n");
 }
 
 // The line of `count`.
-pub fn put_count(out: &mut Lines, count: u32) -> fmt::Result {
-    writeln!(out, "count {count}")
+pub fn put_count(out: &mut Lines, count: u32)
+    ensures { length out.old ≤ length out.new }
+{
+    out.put_form(format_args!("count {count}\n"));
 }
 
 // The line of `fresh`.
-pub fn put_made(out: &mut Lines, x: &Made) -> fmt::Result {
-    write!(out, "fresh {}", x.number)?;
+pub fn put_made(out: &mut Lines, x: &Made)
+    ensures { length out.old ≤ length out.new }
+{
+    out.put_form(format_args!("fresh {}", x.number));
     put_bytes_of(out, x.card);
-    writeln!(out)
+    out.put_text(b"\n");
 }
 
 // The line of `write`.
-pub fn put_written(out: &mut Lines, x: &Written, room: &[u8]) -> fmt::Result
+pub fn put_written(out: &mut Lines, x: &Written, room: &[u8])
     requires { length room.now ≤ 12480 }
+    ensures { length out.old ≤ length out.new }
 {
-    write!(out, "write {} {}", x.number, x.count)?;
-    put_memory(out, room)?;
-    writeln!(out)
+    out.put_form(format_args!("write {} {}", x.number, x.count));
+    put_memory(out, room);
+    out.put_text(b"\n");
 }
 
 // The line of `pull`.
-pub fn put_pulled(out: &mut Lines, x: &Found, value: &[u8]) -> fmt::Result
+pub fn put_pulled(out: &mut Lines, x: &Found, value: &[u8])
     requires { length value.now ≤ 12480 }
+    ensures { length out.old ≤ length out.new }
 {
-    write!(
-        out,
-        "pull {} {:04X} {} {}",
-        x.ending, x.tag, x.start, x.next
-    )?;
-    put_memory(out, value)?;
-    writeln!(out)
+    out.put_form(format_args!("pull {} {:04X} {} {}", x.ending, x.tag, x.start, x.next));
+    put_memory(out, value);
+    out.put_text(b"\n");
 }

@@ -15,7 +15,6 @@ use io_edge::{Arguments, Failure, Label, Page, Source, Status, Voice};
 use lines::Lines;
 use making::make;
 use print_forms::Line;
-use std::fmt::Write;
 
 // No call's line is longer than 2,600 characters.
 const LINE_ROOM: usize = 4_096;
@@ -57,7 +56,7 @@ fn say_wrong(voice: Voice, count: u64, fault: Fault) {
 // The last line.
 fn print_end(page: Page, count: u64) -> Result<(), Failure> {
     let mut line = Line::<END_SIZE>::new();
-    let _ = writeln!(line, "END {count}");
+    line.put_form(format_args!("END {count}\n"));
     page.print(line.as_bytes())
 }
 

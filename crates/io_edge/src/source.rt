@@ -52,7 +52,8 @@ pub struct Source<'a> {
 impl Source<'_> {
     // Reads as `read_labelled`.
     pub fn read(&mut self, room: &mut [u8]) -> Result<usize, ReadError>
-        ensures { IsPrefixLen (count_in result) room.new }
+        ensures count { IsPrefixLen (count_in result) room.new }
+        ensures stays { (self.new.voice ≡ self.old.voice) × (self.new.is_text ≡ self.old.is_text) }
     {
         read_labelled(self.voice, &mut self.from, room)
     }
@@ -84,16 +85,19 @@ impl<'a> Arguments<'a> {
         self.rt.arg(self.next, room).ok()
     }
 
+    // Whether the next argument is this option. A longer one is no word here; none is an empty one.
+    pub fn is_next(&self, option: &[u8]) -> bool {
+        let mut word = [0u8; WORD_SIZE];
+        let n = self.copy_next(&mut word).unwrap_or(0);
+        &word[..n] == option
+    }
+
     // Whether the next argument is this option. Then the one behind it is next.
     pub fn take_option(&mut self, option: &[u8]) -> bool
         requires { self.old.next ≤ 8 }
         ensures { self.new.next ≡ cond result (self.old.next + 1) self.old.next }
     {
-        let mut word = [0u8; WORD_SIZE];
-        let given = match self.copy_next(&mut word) {
-            Some(n) => &word[..n] == option,
-            None => false,
-        };
+        let given = self.is_next(option);
         if given {
             self.next += 1;
         }
@@ -111,7 +115,11 @@ impl<'a> Arguments<'a> {
 
     // What the next argument names, or standard input where there is none; nothing may follow. The label is the
     // program's and the file's name.
-    pub fn open_last<'b>(&self, stdin: Stdin, label: &'b mut Label) -> Result<Source<'b>, Failure>
+    pub fn open_last<'b, const N: usize>(
+        &self,
+        stdin: Stdin,
+        label: &'b mut Line<N>,
+    ) -> Result<Source<'b>, Failure>
         requires { self.now.next ≤ 9 }
     {
         if self.has(self.next + 1) {
@@ -133,8 +141,11 @@ impl<'a> Arguments<'a> {
 
     // The file that the next argument names. An empty name is one that there is no file of; one that the label has no
     // room for is too long.
-    fn open_named<'b>(&self, label: &'b mut Label) -> Result<Source<'b>, Failure> {
-        let mut room = [0u8; LABEL_SIZE];
+    fn open_named<'b, const N: usize>(
+        &self,
+        label: &'b mut Line<N>,
+    ) -> Result<Source<'b>, Failure> {
+        let mut room = [0u8; N];
         let Some(n) = self.copy_next(&mut room[..label.room()]) else {
             label.put_text(b"FILE");
             let why = io::Error::from_raw_os_error(ENAMETOOLONG);

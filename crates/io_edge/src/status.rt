@@ -1,6 +1,6 @@
 // How a program ends, and who hears of it.
-ghost use Rattle.std.specs.Prelude.{◌≡◌, ◌↔◌, ◌⊎◌, cond, IsTrue};
-ghost use Rattle.io_edge.specs.Ends.{status_with};
+ghost use Rattle.std.specs.Prelude.{◌≡◌, ◌+◌, ◌↔◌, ◌⊎◌, cond, IsTrue};
+ghost use Rattle.io_edge.specs.Ends.{number_of, status_with};
 ghost use Rattle.io_edge.specs.declared.status.Failure.TheVariants.{NotDone};
 
 use crate::{ReadError, write_whole};
@@ -49,13 +49,23 @@ impl Status {
         self == Status::Done || self == Status::Refused
     }
 
-    fn digit(self) -> u8 {
+    // The number that a program tells.
+    pub fn number(self) -> u8
+        ensures { result ≡ number_of self }
+    {
         match self {
-            Status::Done => b'0',
-            Status::Refused => b'1',
-            Status::NotDone => b'2',
-            Status::Gone => b'4',
+            Status::Done => 0,
+            Status::Refused => 1,
+            Status::NotDone => 2,
+            Status::Gone => 4,
         }
+    }
+
+    // The same as a character.
+    fn digit(self) -> u8
+        ensures { result ≡ 48 + number_of self }
+    {
+        b'0' + self.number()
     }
 }
 

@@ -3,7 +3,7 @@ ghost use Rattle.std.specs.Prelude.{◌≡◌, ◌≤◌, length};
 
 use crate::write_whole;
 use print_forms::Line;
-use std::fmt::{Display, Write};
+use std::fmt::Display;
 use std::io;
 use std::io::Stderr;
 
@@ -37,7 +37,7 @@ impl Voice<'_> {
     // The label and what a value displays, up to 256 characters of it.
     pub fn say_line<D: Display + Drop>(self, words: D) {
         let mut line = Line::<LINE_SIZE>::new();
-        let _ = write!(line, "{words}");
+        line.put_form(words);
         self.say(line.as_bytes());
     }
 
@@ -54,7 +54,7 @@ impl Voice<'_> {
     // What failed and why: the label, and the system's reason.
     pub fn say_failed(self, why: io::Error) {
         let mut line = Line::<LINE_SIZE>::new();
-        let _ = write!(line, ": {why}");
+        line.put_form(format_args!(": {why}"));
         let words = line.as_bytes();
         self.say(&words[..words_end(words)]);
         self.labelled(b"\n").say(b"");

@@ -5,6 +5,7 @@
 ghost use Rattle.std.specs.Prelude.{◌≡◌, ◌≤◌, ◌||◌, ◌++◌, cond, min, length, IfOk};
 ghost use Rattle.io_intake.specs.declared.Unread.TheVariants.{Failed};
 ghost use Rattle.io_edge.specs.Counts.{IsPrefixLen};
+ghost use Rattle.io_intake.specs.Counts.{count_before};
 
 use io_edge::{Failure, ReadError, Source, Voice};
 use job_text::{Fault, Mode, Reading};
@@ -12,7 +13,6 @@ use model::{CAPACITY, CHIP_SIZE, ORDER_LIMIT};
 use print_forms::Line;
 use reason_why::Why;
 use reason_words::Refusal;
-use std::fmt::Write;
 use std::fs::Files;
 use std::io;
 use std::io::Read;
@@ -28,7 +28,7 @@ const BLOCK_SIZE: usize = 1024;
 
 const MESSAGE_SIZE: usize = 4864;
 
-// Why a job could not be read: a read failed, or its text is wrong.
+// Why a job could not be read: a read failed, or its text is wrong, at a place behind so many bytes.
 #[derive(Clone, Copy)]
 pub enum Unread {
     Failed(io::Error),
@@ -36,6 +36,7 @@ pub enum Unread {
         fault: Fault,
         line: u32,
         column: u32,
+        count: usize,
     },
 }
 
@@ -50,6 +51,7 @@ impl Unread {
                 fault,
                 line,
                 column,
+                ..
             } => voice.say_fault(fault == Fault::HalfByte, line, column),
         }
         Failure::NotDone
@@ -123,7 +125,8 @@ impl<'a> Job<'a> {
         };
         let mut text = Line::<MESSAGE_SIZE>::new();
         text.put_text(voice.label);
-        let _ = writeln!(text, "{refusal}");
+        refusal.put_on(&mut text);
+        text.put_text(b"\n");
         voice.labelled(text.as_bytes()).say(b"");
         why
     }
@@ -131,7 +134,8 @@ impl<'a> Job<'a> {
 
 // A text that has ended.
 fn ended(last: Reading) -> Result<usize, Unread>
-    ensures { IfOk result (λ count. count ≡ last.count) }
+    ensures count { IfOk result (λ count. count ≡ last.count) }
+    ensures wrong { count_before result ≤ last.count }
 {
     let place = last.finish().place;
     match place.mode {
@@ -139,6 +143,7 @@ fn ended(last: Reading) -> Result<usize, Unread>
             fault,
             line: place.line,
             column: place.column,
+            count: last.count,
         }),
         _ => Ok(last.count),
     }
@@ -147,7 +152,8 @@ fn ended(last: Reading) -> Result<usize, Unread>
 // Block after block. The loop has more turns than a run uses up, since nothing says that an input ends.
 fn take_text<R: Read>(from: &mut R, room: &mut [u8], lines: &mut [u32]) -> Result<usize, Unread>
     requires { length lines.old ≡ length room.old }
-    ensures { IfOk result (λ count. count ≤ length room.old) }
+    ensures count { IfOk result (λ count. count ≤ length room.old) }
+    ensures wrong { count_before result ≤ length room.old }
 {
     let mut block = [0u8; BLOCK_SIZE];
     let mut reading = Reading::start();
@@ -171,6 +177,7 @@ pub fn take<'a, R: Read>(
     requires { length lines.old ≡ length room.old }
     ensures bytes { IfOk result (λ job. length job.bytes.now ≤ length room.old) }
     ensures lines { IfOk result (λ job. length job.lines.now ≡ cond is_text (length job.bytes.now) 0) }
+    ensures wrong { count_before result ≤ length room.old }
 {
     if is_text {
         let count = take_text(from, room, lines)?;
@@ -197,6 +204,7 @@ pub fn take_source<'a>(
     ensures bytes { IfOk result (λ job. length job.bytes.now ≤ length room.old) }
     ensures lines { IfOk result (λ job. length job.lines.now
         ≡ cond (hex || source.old.is_text) (length job.bytes.now) 0) }
+    ensures stays { (source.new.voice ≡ source.old.voice) × (source.new.is_text ≡ source.old.is_text) }
 {
     let is_text = hex || source.is_text;
     let voice = source.voice;
@@ -212,6 +220,7 @@ fn take_file<'a, R: Files>(
     requires { length lines.old ≡ length room.old }
     ensures bytes { IfOk result (λ job. length job.bytes.now ≤ length room.old) }
     ensures lines { IfOk result (λ job. length job.lines.now ≤ length job.bytes.now) }
+    ensures wrong { count_before result ≤ length room.old }
 {
     let mut file = io_edge::open_read(rt, name)?;
     take(&mut file, io_edge::is_text_name(name), room, lines)
@@ -228,6 +237,7 @@ pub fn take_named<'a, R: Files>(
     requires { length lines.old ≡ length room.old }
     ensures bytes { IfOk result (λ job. length job.bytes.now ≤ length room.old) }
     ensures lines { IfOk result (λ job. length job.lines.now ≤ length job.bytes.now) }
+    ensures wrong { count_before result ≤ length room.old }
 {
     let taken = take_file(rt, name, room, lines);
     if let Err(why) = taken {

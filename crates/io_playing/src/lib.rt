@@ -52,7 +52,8 @@ fn begin_with(voice: Voice, chip: &[u8]) -> Begun
 }
 
 pub fn begin(source: &mut Source) -> Begun
-    ensures { Good area_size result.card (zeros area_size) }
+    ensures good { Good area_size result.card (zeros area_size) }
+    ensures stays { (source.new.voice ≡ source.old.voice) × (source.new.is_text ≡ source.old.is_text) }
 {
     let mut chip = [0u8; CHIP_SIZE];
     match source.read(&mut chip) {
@@ -122,6 +123,7 @@ fn play_block(
     ensures good { Good area_size s.new.card area.new × (s.new.count < 100000)
         × (s.new.gathered + BLOCK_LINES ≤ LINES_SIZE) }
     ensures plays { PlaysBlock s.old.count s.old.card area.old block.new s.new.card area.new s.new.count }
+    ensures stays { (source.new.voice ≡ source.old.voice) × (source.new.is_text ≡ source.old.is_text) }
 {
     let n = source.read(block)?;
     let records = &block[..n];
@@ -145,7 +147,8 @@ fn play_all(
 ) -> Result<(), Failure>
     requires { Good area_size s.old.card area.old × (s.old.count < 100000)
         × (s.old.gathered + BLOCK_LINES ≤ LINES_SIZE) }
-    ensures { Good area_size s.new.card area.new }
+    ensures good { Good area_size s.new.card area.new }
+    ensures stays { (source.new.voice ≡ source.old.voice) × (source.new.is_text ≡ source.old.is_text) }
 {
     let mut block = [0u8; BLOCK_SIZE];
     let mut lines = [0u8; LINES_SIZE];
@@ -195,7 +198,8 @@ fn play_on(
 ) -> Result<Ending, Failure>
     requires { Good area_size s.old.card area.old × (s.old.count < 100000)
         × (s.old.gathered + BLOCK_LINES ≤ LINES_SIZE) }
-    ensures { Good area_size s.new.card area.new }
+    ensures good { Good area_size s.new.card area.new }
+    ensures stays { (source.new.voice ≡ source.old.voice) × (source.new.is_text ≡ source.old.is_text) }
 {
     if begun? == Status::Refused {
         return Ok(Ending::NoSession);
@@ -207,7 +211,8 @@ fn play_on(
 // Plays a session in a clear area. Its lines are printed as they come, where there is a page for them.
 pub fn play(source: &mut Source, page: Option<Page>, area: &mut [u8]) -> Outcome
     requires { area.old ≡ zeros area_size }
-    ensures { Good area_size result.card area.new }
+    ensures good { Good area_size result.card area.new }
+    ensures stays { (source.new.voice ≡ source.old.voice) × (source.new.is_text ≡ source.old.is_text) }
 {
     let begun = begin(source);
     let mut s = Stand {

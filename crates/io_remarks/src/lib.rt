@@ -11,6 +11,9 @@ const LENGTH_PLACE: usize = 3;
 
 const NUMBER_PLACE: usize = 10;
 
+// A line has its number.
+const _: () = prove!(NUMBER_PLACE < LINE_SIZE);
+
 const ZERO_DIGIT: u8 = b'0';
 
 // So many refused events have a line each; the others are counted.

@@ -1,14 +1,15 @@
-// Text in fixed memory, filled from the front: a form with its values by `write!`, bytes as they are, bytes in
-// hexadecimal, numbers. What there is no room for is left out.
+// Text in fixed memory, filled from the front: forms with their values, bytes as they are, bytes in hexadecimal, numbers.
+// What there is no room for is left out.
 #![tactic(auto)]
 
-ghost use Rattle.std.specs.Prelude.{◌≡◌, ◌+◌, ◌-◌, ◌/◌, ◌<◌, ◌≤◌, [], ◌++◌, length, take};
+ghost use Rattle.std.specs.Prelude.{◌≡◌, ◌+◌, ◌-◌, ◌/◌, ◌<◌, ◌≤◌, [], ◌∷◌, ◌++◌, length, take};
 ghost use Rattle.print_numbers.specs.Trace.{decimal_of, hex_of};
 
 use std::fmt;
+use std::fmt::{Display, Write};
 use std::marker::Model;
 
-// The most characters of a mark: a mark is what stands in a form for a number.
+// The most characters of a number.
 const MARK_LIMIT: usize = 20;
 
 // A line, seen as its text so far.
@@ -83,6 +84,40 @@ impl<const N: usize> Line<N> {
             return;
         }
         self.filled = print_numbers::put_number(&mut self.text, self.filled, n);
+    }
+
+    // One character more, which has room.
+    pub fn push(&mut self, c: u8)
+        requires { length self.old < N }
+        ensures laid { self.new ≡ self.old ++ c ∷ [] }
+        ensures long { length self.new ≡ length self.old + 1 }
+    {
+        self.text[self.filled] = c;
+        self.filled += 1;
+    }
+
+    // A form with its values, by `format_args!`. It is cut off where the room ends, but a number goes in whole or not at
+    // all. Nothing that stands there goes.
+    pub fn put_form<D: Display + Drop>(&mut self, form: D)
+        ensures { length self.old ≤ length self.new }
+    {
+        let before = self.filled;
+        let _ = self.write(form);
+        self.filled = self.filled.max(before);
+        if self.filled == N {
+            let text = &self.text[..];
+            self.filled = before + whole_in(&text[before..]);
+        }
+    }
+}
+
+// How far a text goes without the digits at its end: where there was no more room they may be a part of a number.
+fn whole_in(text: &[u8]) -> usize
+    ensures { result ≤ length text.now }
+{
+    match text.iter().rposition(|c| !c.is_ascii_hexdigit()) {
+        Some(i) => i + 1,
+        None => 0,
     }
 }
 

@@ -1,7 +1,10 @@
 // A refusal in words: which rule, where in the order, and what was found there. No byte of a value is ever told.
 #![tactic(auto)]
 
+ghost use Rattle.std.specs.Prelude.{◌≤◌, length};
+
 use model::{CHIP_SIZE, RECORD_ROW, ROW_COUNT};
+use print_forms::Line;
 use reason_stops::{Cause, Stop};
 use reason_why::Why;
 use std::fmt;
@@ -220,6 +223,13 @@ pub struct Refusal {
 }
 
 impl Refusal {
+    // Its words, behind what a line has.
+    pub fn put_on<const N: usize>(self, line: &mut Line<N>)
+        ensures { length line.old ≤ length line.new }
+    {
+        line.put_form(format_args!("{self}"));
+    }
+
     // What a number means.
     fn put_number<W: Write>(&self, f: &mut Formatter<W>) -> fmt::Result {
         let number = self.number;

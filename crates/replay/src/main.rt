@@ -22,12 +22,15 @@ fn say_sum(voice: Voice, sum: usize) {
 fn replay(mut source: Source, page: Page, sums: bool) -> Result<Status, Failure> {
     let mut area = io_playing::clear_area();
     let outcome = io_playing::play(&mut source, Some(page), &mut area);
-    let ending = outcome.ending?;
+    let status = Status::from(outcome.ending?);
+    if !status.is_done() {
+        return Ok(status);
+    }
     print_end(page, outcome.count)?;
     if sums {
         say_sum(source.voice, io_playing::place_sum(&area));
     }
-    Ok(ending.into())
+    Ok(status)
 }
 
 fn main(rt: HostRuntime) {

@@ -2,17 +2,17 @@
 // compare it character by character with the second program's.
 #![tactic(auto)]
 
-ghost use Rattle.std.specs.Prelude.{◌≡◌, ◌≤◌, length};
+ghost use Rattle.std.specs.Prelude.{◌≡◌, ◌+◌, ◌≤◌, length};
 ghost use Rattle.lists.specs.Bytes.{zeros};
 ghost use Rattle.model.specs.Stored.{area_size};
 ghost use Rattle.theorem_sound.specs.Keeps.{Good};
 
 use io_edge::{Arguments, Failure, Label, Page, Source, Status, Voice};
 use io_remarks::Noted;
-use model::{Card, Descriptor, Life, Loading, Open, Played, RECORD_SIZE, TABLE_LIMIT};
+use model::{
+    Card, DESCRIPTOR_SIZE, Descriptor, Life, Loading, Open, Played, RECORD_SIZE, TABLE_LIMIT,
+};
 use print_forms::Line;
-use std::fmt;
-use std::fmt::Write;
 
 // 24 records. No event's line is longer than 2,600 characters, and there is room for as many.
 const BLOCK_SIZE: usize = 6240;
@@ -26,7 +26,9 @@ const TABLE_TAG: u16 = 0x3100;
 type Lines = Line<LINES_SIZE>;
 
 // The first n of some bytes behind a blank. Of none it is a dash.
-fn put_front(out: &mut Lines, bytes: &[u8], n: usize) {
+fn put_front(out: &mut Lines, bytes: &[u8], n: usize)
+    ensures { length out.old ≤ length out.new }
+{
     if n == 0 {
         out.put_text(b" -");
         return;
@@ -36,7 +38,9 @@ fn put_front(out: &mut Lines, bytes: &[u8], n: usize) {
 }
 
 // Serial number, startup, counter, and the secrets of '3800' and '4101' to '4104'.
-fn put_facts(out: &mut Lines, l: &Loading) {
+fn put_facts(out: &mut Lines, l: &Loading)
+    ensures { length out.old ≤ length out.new }
+{
     put_front(out, &l.serial, 8);
     put_front(out, &l.startup, 7);
     out.put_text(b" ");
@@ -47,63 +51,71 @@ fn put_facts(out: &mut Lines, l: &Loading) {
 }
 
 // A descriptor as it is stored.
-fn put_descriptor(out: &mut Lines, d: &Descriptor) {
-    out.put_hex(&d.lid.to_be_bytes());
-    out.put_hex(&[d.sfi, d.filetype, d.eftype, d.recsize, d.numrec]);
-    out.put_hex(&d.ac);
-    out.put_hex(&d.nkey);
-    out.put_hex(&[d.refsfi, d.refnum, d.status]);
+fn stored(d: &Descriptor) -> [u8; DESCRIPTOR_SIZE] {
+    let [high, low] = d.lid.to_be_bytes();
+    let [a0, a1, a2, a3] = d.ac;
+    let [k0, k1, k2, k3] = d.nkey;
+    [
+        high, low, d.sfi, d.filetype, d.eftype, d.recsize, d.numrec, a0, a1, a2, a3, k0, k1, k2,
+        k3, d.refsfi, d.refnum, d.status,
+    ]
 }
 
 // The number of descriptors, and they.
-fn put_table(out: &mut Lines, files: &[Descriptor], count: usize) {
+fn put_table(out: &mut Lines, files: &[Descriptor], count: usize)
+    ensures { length out.old ≤ length out.new }
+{
     let first = &files[..count.min(files.len())];
     out.put_text(b" ");
     out.put_number(count as u64);
     out.put_text(if first.is_empty() { b" -" } else { b" " });
     for d in first {
-        put_descriptor(out, d);
+        out.put_hex(&stored(d));
     }
 }
 
 // The open value as TAG:COUNT:MISSING, and the bytes held of '3100'.
-fn put_open(out: &mut Lines, l: &Loading) -> fmt::Result {
+fn put_open(out: &mut Lines, l: &Loading)
+    ensures { length out.old ≤ length out.new }
+{
     match l.running.pending {
-        Open::Shut => { write!(out, " - -") }
+        Open::Shut => out.put_text(b" - -"),
         Open::Table { held, missing } => {
-            write!(out, " {TABLE_TAG:04X}:{held}:{missing}")?;
+            out.put_form(format_args!(" {TABLE_TAG:04X}:{held}:{missing}"));
             put_front(out, &l.held, held);
-            Ok(())
         }
         Open::Record {
             tag,
             written,
             missing,
-        } => write!(out, " {tag:04X}:{written}:{missing} -"),
+        } => out.put_form(format_args!(" {tag:04X}:{written}:{missing} -")),
     }
 }
 
 // GP, internal, selected, name, rows.
-fn put_life(out: &mut Lines, life: &Life, internal: u8, rows: u16) -> fmt::Result {
+fn put_life(out: &mut Lines, life: &Life, internal: u8, rows: u16)
+    ensures { length out.old ≤ length out.new }
+{
     let selected = life.selected as u8;
-    write!(out, " {:02X} {internal:02X} {selected}", life.gp)?;
+    out.put_form(format_args!(" {:02X} {internal:02X} {selected}", life.gp));
     put_front(out, &life.name, life.namelen);
-    write!(out, " {rows:04X}")
+    out.put_form(format_args!(" {rows:04X}"));
 }
 
 // An event's line: what it said, its refusal number and word; the card's life; the answer; what is loaded. The area's
 // place sum ends it.
-fn put_line(out: &mut Lines, p: &Played, answer: &[u8], area: &[u8]) -> fmt::Result
+fn put_line(out: &mut Lines, p: &Played, answer: &[u8], area: &[u8])
     requires { length area.now ≡ 4096 }
+    ensures { length out.old ≤ length out.new }
 {
     let l = &p.card.loading;
-    write!(out, "{} {:04X}", p.number, p.word)?;
-    put_life(out, &p.card.life, l.running.internal, l.running.rows)?;
+    out.put_form(format_args!("{} {:04X}", p.number, p.word));
+    put_life(out, &p.card.life, l.running.internal, l.running.rows);
     put_front(out, answer, p.answered);
     put_facts(out, l);
     put_table(out, &l.files, l.count);
-    put_open(out, l)?;
-    writeln!(out, " {:08X}", io_playing::place_sum(area))
+    put_open(out, l);
+    out.put_form(format_args!(" {:08X}\n", io_playing::place_sum(area)));
 }
 
 // How far a session is traced: the card, what was noted of it, and how many bytes are behind the last whole record.
@@ -117,12 +129,12 @@ struct Stand {
 // One record is played and has its line. Whether it was refused.
 fn trace_one(c: &mut Card, area: &mut [u8], r: &[u8], out: &mut Lines) -> bool
     requires { Good area_size c.old area.old × (length r.now ≡ 260) }
-    ensures { Good area_size c.new area.new }
+    ensures { Good area_size c.new area.new × (length out.old ≤ length out.new) }
 {
     let mut answer = [0u8; 64];
     let p = event_turn::turn(*c, area, &mut answer, r);
     *c = p.card;
-    let _ = put_line(out, &p, &answer, area);
+    put_line(out, &p, &answer, area);
     p.number != 0
 }
 
@@ -194,6 +206,9 @@ fn trace_card(c: Card, source: &mut Source, page: Page) -> Result<Status, Failur
         left: 0,
     };
     let status = trace_blocks(&mut s, source, page, &mut area)?;
+    if !status.is_done() {
+        return Ok(status);
+    }
     print_area(page, &area)?;
     Ok(status)
 }

@@ -2,5 +2,5 @@
 use Rattle.theorem_sound.proofs.Sessions.{fresh_keeps}
 use Rattle.io_playing.proofs.begin.Goals as goal
 
-pub returns-in-Err : goal.returns-in-Err
-returns-in-Err c = rw c.fresh.ensures (fresh_keeps _)
+pub returns-in-Err-clause-good : goal.returns-in-Err-clause-good
+returns-in-Err-clause-good c = rw c.fresh.ensures (fresh_keeps _)

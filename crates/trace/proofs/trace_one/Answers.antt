@@ -5,4 +5,4 @@ use Rattle.trace.proofs.trace_one.Goals as goal
 pub returns : goal.returns
 returns c =
     let p = c.turn-p.ensures in
-    rw (p.leaves, p.keeps) (turn_keeps c.args.c.now c.args.area.now c.args.r.now c.requires.0)
+    (rw (p.leaves, p.keeps) (turn_keeps c.args.c.now c.args.area.now c.args.r.now c.requires.0), c.put_line.ensures)
