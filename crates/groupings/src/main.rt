@@ -3,12 +3,11 @@
 // length, in the memory of one window and one buffer.
 #![tactic(auto)]
 
-ghost use Rattle.std.specs.Prelude.{◌≡◌, ◌+◌, ◌≤◌, length, IfOk};
+ghost use Rattle.std.specs.Prelude.{◌≡◌, ◌+◌, ◌*◌, ◌≤◌, length, IfOk, OnOk};
 
 use io_edge::{Arguments, Failure, Label, Page, Source, Status, Voice, listener, tell};
 use job_text::{Fault, Mode, Place, Reading};
 use model::{CHIP_SIZE, Header};
-use print_forms::Line;
 use std::io::{Stdin, Stdout};
 
 // A value of up to so many bytes is printed only when it is whole: it fits a window with its header.
@@ -24,51 +23,91 @@ const PIECE: usize = 4096;
 // A line's characters other than its value's digits.
 const LINE_MORE: usize = 7;
 
+// A tag's digits, and the blank behind them.
+const TAG_MORE: usize = 5;
+
 // Text is read so many characters at a time: they complete fewer bytes.
 const CHUNK: usize = 512;
 
-// Lines on their way to standard output, gathered in a buffer.
+// A value in hexadecimal, or a dash, from a place on that has room for it. The place behind it.
+fn put_value(out: &mut [u8], at: usize, value: &[u8]) -> usize
+    requires { at + 2 * length value.now + 1 ≤ length out.old }
+    ensures { result ≤ at + 2 * length value.now + 1 }
+{
+    if value.is_empty() {
+        out[at] = b'-';
+        return at + 1;
+    }
+    print_numbers::put_hex(out, at, value)
+}
+
+// The line of a grouping likewise.
+fn put_line(out: &mut [u8], at: usize, tag: u16, value: &[u8]) -> usize
+    requires { at + 2 * length value.now + 7 ≤ length out.old }
+    ensures { result ≤ length out.old }
+{
+    print_numbers::put_hex4(out, at, tag);
+    out[at + 4] = b' ';
+    let end = put_value(out, at + TAG_MORE, value);
+    out[end] = b'\n';
+    end + 1
+}
+
+// Lines on their way to standard output, gathered in a buffer. Memory and a count, and no `Line`: a grouping's line is
+// laid with one change of the count, and short groupings took half as long again with one for each part.
 #[derive(Drop)]
 struct Lines<'a> {
     page: Page<'a>,
-    text: Line<TEXT_SIZE>,
+    text: [u8; TEXT_SIZE],
+    filled: usize,
     // How many bytes of a long value are still to come.
     owed: usize,
+    ghost within: { filled ≤ 16384 },
 }
 
 impl Lines<'_> {
-    fn send(&mut self) -> Result<(), Failure> {
-        self.page.print(self.text.as_bytes())?;
-        self.text.clear();
+    fn send(&mut self) -> Result<(), Failure>
+        ensures { OnOk result (self.new.filled ≡ 0) }
+    {
+        self.page.print(&self.text[..self.filled])?;
+        self.filled = 0;
         Ok(())
     }
 
     // Where so many more characters have no room, what is gathered goes out.
-    fn make_room(&mut self, more: usize) -> Result<(), Failure> {
-        if self.text.room() < more {
+    fn make_room(&mut self, more: usize) -> Result<(), Failure>
+        requires { more ≤ TEXT_SIZE }
+        ensures { OnOk result (self.new.filled + more ≤ TEXT_SIZE) }
+    {
+        if TEXT_SIZE - self.filled < more {
             return self.send();
         }
         Ok(())
     }
 
-    fn put_text(&mut self, text: &[u8]) -> Result<(), Failure> {
-        self.make_room(text.len())?;
-        self.text.put_text(text);
+    // A tag and the blank behind it.
+    fn put_tag(&mut self, tag: u16) -> Result<(), Failure> {
+        self.make_room(TAG_MORE)?;
+        let at = self.filled;
+        print_numbers::put_hex4(&mut self.text, at, tag);
+        self.text[at + 4] = b' ';
+        self.filled = at + TAG_MORE;
         Ok(())
     }
 
-    // A tag and the blank behind it.
-    fn put_tag(&mut self, tag: u16) -> Result<(), Failure> {
-        let mut text = *b"0000 ";
-        print_numbers::put_hex4(&mut text, 0, tag);
-        self.put_text(&text)
+    fn end_line(&mut self) -> Result<(), Failure> {
+        self.make_room(1)?;
+        let at = self.filled;
+        self.text[at] = b'\n';
+        self.filled = at + 1;
+        Ok(())
     }
 
     // Bytes of a value in hexadecimal.
     fn put_bytes(&mut self, value: &[u8]) -> Result<(), Failure> {
         for piece in value.chunks(PIECE) {
             self.make_room(2 * piece.len())?;
-            self.text.put_hex(piece);
+            self.filled = print_numbers::put_hex(&mut self.text, self.filled, piece);
         }
         Ok(())
     }
@@ -78,15 +117,10 @@ impl Lines<'_> {
         if PIECE - LINE_MORE <= value.len() {
             self.put_tag(tag)?;
             self.put_bytes(value)?;
-            return self.put_text(b"\n");
+            return self.end_line();
         }
         self.make_room(2 * value.len() + LINE_MORE)?;
-        self.put_tag(tag)?;
-        match value.len() {
-            0 => self.text.put_text(b"-"),
-            _ => self.text.put_hex(value),
-        }
-        self.text.put_text(b"\n");
+        self.filled = put_line(&mut self.text, self.filled, tag, value);
         Ok(())
     }
 
@@ -130,7 +164,7 @@ impl Lines<'_> {
         self.put_bytes(&order[..n])?;
         self.owed = self.owed.saturating_sub(n);
         if self.owed == 0 {
-            self.put_text(b"\n")?;
+            self.end_line()?;
         }
         Ok(n)
     }
@@ -152,15 +186,12 @@ impl Lines<'_> {
     // What is gathered, the end of a line that was broken off, and the last line.
     fn print_ending(&mut self, torn: bool) -> Result<(), Failure> {
         self.send()?;
-        if 0 < self.owed {
-            self.text.put_text(b"\n");
-        }
-        if torn {
-            self.text.put_text(b"torn\n");
-        } else {
-            self.text.put_text(b"end\n");
-        }
-        self.send()
+        let broken = 0 < self.owed;
+        self.page.print(match (broken, torn) {
+            (true, _) => b"\ntorn\n",
+            (false, true) => b"torn\n",
+            (false, false) => b"end\n",
+        })
     }
 }
 
@@ -354,7 +385,8 @@ fn run(
     let voice = arguments.voice.labelled(b"groupings: standard output");
     let mut lines = Lines {
         page: Page { out, voice },
-        text: Line::new(),
+        text: [0; TEXT_SIZE],
+        filled: 0,
         owed: 0,
     };
     print(&mut window, &mut lines)
