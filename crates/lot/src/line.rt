@@ -1,4 +1,6 @@
 // A job's line on standard output: nine fields parted by tabs.
+ghost use Rattle.std.specs.Prelude.{◌≤◌, length};
+
 use io_intake::Unread;
 use job_register::Entry;
 use print_forms::Line;
@@ -79,10 +81,12 @@ fn shown(c: u8) -> u8 {
     c
 }
 
-// A job's line, as far as there is room.
-pub fn put_line<const N: usize>(lines: &mut Line<N>, name: &[u8], ending: Ending) {
-    for c in name {
-        lines.put_text(&[shown(*c)]);
+// A job's line, as far as there is room. Nothing that stands there goes.
+pub fn put_line<const N: usize>(lines: &mut Line<N>, name: &[u8], ending: Ending)
+    ensures { length lines.old ≤ length lines.new }
+{
+    for c in &name[..name.len().min(lines.room())] {
+        lines.push(shown(*c));
     }
-    let _ = writeln!(lines, "{ending}");
+    lines.put_form(format_args!("{ending}\n"));
 }

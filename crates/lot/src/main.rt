@@ -7,7 +7,7 @@ mod names;
 mod options;
 mod paths;
 
-ghost use Rattle.std.specs.Prelude.{◌≡◌, ◌≤◌, length};
+ghost use Rattle.std.specs.Prelude.{◌≡◌, ◌≤◌, [], length};
 
 use io_edge::{Failure, Label, Page, Source, Stream, Voice};
 use io_intake::{JOB_SIZE, Job, RECORDS_SIZE};
@@ -18,7 +18,6 @@ use names::Names;
 use options::{Options, read_options};
 use paths::{Path, put_path};
 use print_forms::Line;
-use std::fmt::Write;
 use std::fs::{File, Files};
 use std::io;
 use std::io::ErrorKind;
@@ -171,7 +170,7 @@ impl Tally {
         } = self;
         let jobs = loaded.saturating_add(refused).saturating_add(undone);
         let mut line = Line::<END_LIMIT>::new();
-        let _ = writeln!(line, "END\t{jobs}\t{loaded}\t{refused}\t{undone}");
+        line.put_form(format_args!("END\t{jobs}\t{loaded}\t{refused}\t{undone}\n"));
         page.print(line.as_bytes())
     }
 }
@@ -189,7 +188,9 @@ struct Lot<'a, R> {
 }
 
 impl<'a, R: Files<File = File>> Lot<'a, R> {
-    fn new(rt: &'a R, voice: Voice<'a>, folder: &'a [u8], options: Options) -> Lot<'a, R> {
+    fn new(rt: &'a R, voice: Voice<'a>, folder: &'a [u8], options: Options) -> Lot<'a, R>
+        ensures { result.lines ≡ [] }
+    {
         Lot {
             rt,
             voice,
@@ -239,7 +240,9 @@ impl<'a, R: Files<File = File>> Lot<'a, R> {
     }
 
     // What is gathered goes out where names are waited for, and where another line might not fit.
-    fn pass_on(&mut self, page: Page, waits: bool) -> Result<(), Failure> {
+    fn pass_on(&mut self, page: Page, waits: bool) -> Result<(), Failure>
+        ensures { length self.new.lines ≤ length self.old.lines }
+    {
         if waits || self.lines.room() < LINE_LIMIT {
             page.print(self.lines.as_bytes())?;
             self.lines.clear();
@@ -253,8 +256,9 @@ impl<'a, R: Files<File = File>> Lot<'a, R> {
         let mut room = [0u8; JOB_SIZE];
         let mut lines = [0u32; JOB_SIZE];
         for _ in 0..u64::MAX {
-            self.pass_on(page, names.waits())?;
-            let Some(name) = names.read_next()? else {
+            let whole = names.whole_len();
+            self.pass_on(page, whole.is_none())?;
+            let Some(name) = names.read_next(whole)? else {
                 return self.tally.print(page);
             };
             self.turn(name, &mut room, &mut lines);

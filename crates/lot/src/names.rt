@@ -29,19 +29,14 @@ impl<'a> Names<'a> {
         }
     }
 
-    // How long the next name is, where its separator is in the window.
-    fn whole_len(&self) -> Option<usize>
+    // How long the next name is, where its separator is in the window. Else it has to be read on for.
+    pub fn whole_len(&self) -> Option<usize>
         ensures { IfSome result (λ n. self.now.at + n < self.now.filled) }
     {
         let separator = self.separator;
         self.window[self.at..self.filled]
             .iter()
             .position(|c| *c == separator)
-    }
-
-    // Whether the next name has to be read on for.
-    pub fn waits(&self) -> bool {
-        self.whole_len().is_none()
     }
 
     // Fills the window behind a name that no separator ended.
@@ -59,13 +54,10 @@ impl<'a> Names<'a> {
         Ok(())
     }
 
-    // The same, read on for where it is not: none at the input's end. The last name may have no separator.
-    fn next_len(&mut self) -> Result<Option<usize>, Failure>
+    // The same, read on for: none at the input's end. The last name may have no separator.
+    fn read_len(&mut self) -> Result<Option<usize>, Failure>
         ensures { IfOk result (λ len. IfSome len (λ n. self.new.at + n ≤ self.new.filled)) }
     {
-        if let Some(n) = self.whole_len() {
-            return Ok(Some(n));
-        }
         self.refill()?;
         match self.whole_len() {
             Some(n) => Ok(Some(n)),
@@ -78,9 +70,22 @@ impl<'a> Names<'a> {
         }
     }
 
-    // The next name; none at the input's end.
-    pub fn read_next(&mut self) -> Result<Option<&[u8]>, Failure> {
-        let Some(n) = self.next_len()? else {
+    // How long the next name is, which is `whole` where that was found.
+    fn next_len(&mut self, whole: Option<usize>) -> Result<Option<usize>, Failure>
+        requires { IfSome whole (λ n. self.old.at + n < self.old.filled) }
+        ensures { IfOk result (λ len. IfSome len (λ n. self.new.at + n ≤ self.new.filled)) }
+    {
+        match whole {
+            Some(n) => Ok(Some(n)),
+            None => self.read_len(),
+        }
+    }
+
+    // The next name, of which `whole_len` said how long it is: a name is looked through once. None at the input's end.
+    pub fn read_next(&mut self, whole: Option<usize>) -> Result<Option<&[u8]>, Failure>
+        requires { IfSome whole (λ n. self.old.at + n < self.old.filled) }
+    {
+        let Some(n) = self.next_len(whole)? else {
             return Ok(None);
         };
         let start = self.at;
