@@ -17,21 +17,33 @@ fn character(b: u8) -> char {
     }
 }
 
+// Bytes as text.
+#[derive(Clone, Copy)]
+struct Characters<'a>(&'a [u8]);
+
+impl Display for Characters<'_> {
+    fn fmt<W: Write>(&self, f: &mut Formatter<W>) -> fmt::Result {
+        for b in self.0 {
+            write!(f, "{}", character(*b))?;
+        }
+        Ok(())
+    }
+}
+
 // The name as text, and in hexadecimal.
-fn write_name(text: &mut Text, life: &Life) -> fmt::Result {
+fn write_name(text: &mut Text, life: &Life) {
     let name = &life.name[..life.namelen.min(life.name.len())];
-    write!(text, "Card\n  name            ")?;
     if name.is_empty() {
-        return write!(text, "none");
+        text.put("Card\n  name            none");
+        return;
     }
-    for b in name {
-        write!(text, "{}", character(*b))?;
-    }
-    write!(text, " '{}'", Hex(name))
+    text.put("Card\n  name            ");
+    text.put(Characters(name));
+    text.put(format_args!(" '{}'", Hex(name)));
 }
 
 // The states, and how many events there were.
-fn write_states(text: &mut Text, life: &Life, internal: u8, events: u64) -> fmt::Result {
+fn write_states(text: &mut Text, life: &Life, internal: u8, events: u64) {
     let cycle = match life.gp {
         0x00 => " absent",
         0x03 => " installed",
@@ -51,47 +63,48 @@ fn write_states(text: &mut Text, life: &Life, internal: u8, events: u64) -> fmt:
         0xA5 => " PERSONALIZED",
         _ => "",
     };
-    write!(
-        text,
-        "\n  life cycle      '{:02X}'{cycle}, {selected}",
-        life.gp
-    )?;
-    write!(text, "\n  internal state  '{internal:02X}'{state}")?;
-    write!(text, "\n  events          {events:05}")
+    let gp = life.gp;
+    text.put(format_args!(
+        "\n  life cycle      '{gp:02X}'{cycle}, {selected}\n  internal state  '{internal:02X}'{state}\n  events          {events:05}"
+    ));
 }
 
 // Serial number and startup information, whose first byte is at least 6 once loaded.
-fn write_kept(text: &mut Text, l: &Loading) -> fmt::Result {
-    write!(text, "\n  serial number   '{}'", Hex(&l.serial))?;
-    write!(text, "\n  startup         '{}'", Hex(&l.startup))?;
+fn write_kept(text: &mut Text, l: &Loading) {
+    text.put(format_args!("\n  serial number   '{}'", Hex(&l.serial)));
+    text.put(format_args!("\n  startup         '{}'", Hex(&l.startup)));
     match l.startup[0] {
-        0 => write!(text, ", not loaded"),
-        most => write!(
-            text,
+        0 => text.put(", not loaded"),
+        most => text.put(format_args!(
             ", {} in a session at most",
             Many(most as usize, "modification")
-        ),
+        )),
     }
 }
 
 // An open value: its tag, and how many bytes are missing.
-fn write_gap(text: &mut Text, tag: u16, missing: usize) -> fmt::Result {
-    write!(text, "'{tag:04X}', {} still missing", Many(missing, "byte"))
+#[derive(Clone, Copy)]
+struct Gap(Open);
+
+impl Display for Gap {
+    fn fmt<W: Write>(&self, f: &mut Formatter<W>) -> fmt::Result {
+        let (tag, missing) = match self.0 {
+            Open::Shut => return write!(f, "none"),
+            Open::Table { missing, .. } => (FILE_TABLE_TAG, missing),
+            Open::Record { tag, missing, .. } => (tag, missing),
+        };
+        write!(f, "'{tag:04X}', {} still missing", Many(missing, "byte"))
+    }
 }
 
 // The counter, the open value, and how many rows are taken.
-fn write_progress(text: &mut Text, l: &Loading) -> fmt::Result {
-    write!(
-        text,
-        "\n  counter         {}\n  open value      ",
-        l.counter
-    )?;
-    match l.running.pending {
-        Open::Shut => write!(text, "none")?,
-        Open::Table { missing, .. } => write_gap(text, FILE_TABLE_TAG, missing)?,
-        Open::Record { tag, missing, .. } => write_gap(text, tag, missing)?,
-    }
-    write!(text, "\n\nRows taken: {}", row_sets::count(l.running.rows))
+fn write_progress(text: &mut Text, l: &Loading) {
+    text.put(format_args!(
+        "\n  counter         {}\n  open value      {}",
+        l.counter,
+        Gap(l.running.pending)
+    ));
+    text.put(format_args!("\n\nRows taken: {}", row_sets::count(l.running.rows)));
 }
 
 // What a row is, with the last tag of a record.
@@ -119,35 +132,33 @@ impl Display for RowWords {
     }
 }
 
-fn write_rows(text: &mut Text, rows: u16, last: u16) -> fmt::Result {
+fn write_rows(text: &mut Text, rows: u16, last: u16) {
     for row in 1..=ROW_COUNT {
         if row_sets::is_taken(rows, row) {
-            write!(text, "{}", RowWords { row, last })?;
+            text.put(RowWords { row, last });
         }
     }
-    Ok(())
 }
 
 // The secrets' lengths, and no byte of them.
-fn write_lengths(text: &mut Text, secrets: &[Secret; 5]) -> fmt::Result {
+fn write_lengths(text: &mut Text, secrets: &[Secret; 5]) {
     for (i, s) in secrets.iter().enumerate() {
         let row = FIRST_SECRET_ROW + i;
-        write!(text, "{}: ", RowWords { row, last: 0 })?;
+        text.put(RowWords { row, last: 0 });
         match s.len {
-            0 => write!(text, "none")?,
-            n => write!(text, "{}", Many(n, "byte"))?,
+            0 => text.put(": none"),
+            n => text.put(format_args!(": {}", Many(n, "byte"))),
         }
     }
-    Ok(())
 }
 
-pub fn write_facts(text: &mut Text, c: &Card, events: u64) -> fmt::Result {
+pub fn write_facts(text: &mut Text, c: &Card, events: u64) {
     let l = &c.loading;
-    write_name(text, &c.life)?;
-    write_states(text, &c.life, l.running.internal, events)?;
-    write_kept(text, l)?;
-    write_progress(text, l)?;
-    write_rows(text, l.running.rows, l.running.last)?;
-    write!(text, "\n\nSecrets, their lengths only")?;
-    write_lengths(text, &l.secrets)
+    write_name(text, &c.life);
+    write_states(text, &c.life, l.running.internal, events);
+    write_kept(text, l);
+    write_progress(text, l);
+    write_rows(text, l.running.rows, l.running.last);
+    text.put("\n\nSecrets, their lengths only");
+    write_lengths(text, &l.secrets);
 }

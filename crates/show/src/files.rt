@@ -37,20 +37,24 @@ impl Display for Access {
 }
 
 // The first behind a title, the others behind a semicolon.
-fn write_accesses(text: &mut Text, d: &Descriptor) -> fmt::Result {
-    write!(text, "\n    access conditions: ")?;
+fn write_accesses(text: &mut Text, d: &Descriptor) {
     for (i, (ac, key)) in d.ac.iter().zip(&d.nkey).enumerate() {
-        let parted = if i == 0 { "" } else { "; " };
-        write!(text, "{parted}{}", Access { ac: *ac, key: *key })?;
+        let before = if i == 0 {
+            "\n    access conditions: "
+        } else {
+            "; "
+        };
+        let access = Access { ac: *ac, key: *key };
+        text.put(format_args!("{before}{access}"));
     }
-    Ok(())
 }
 
 // The type, with a binary file's size, or the number and size of the records.
-fn write_sizes(text: &mut Text, d: &Descriptor) -> fmt::Result {
+fn write_sizes(text: &mut Text, d: &Descriptor) {
     if d.eftype == BINARY {
         let size = table_fields::size_of(*d);
-        return write!(text, ", binary file, {}", Many(size, "byte"));
+        text.put(format_args!(", binary file, {}", Many(size, "byte")));
+        return;
     }
     let kind = match d.eftype {
         0x02 => ", linear file, ",
@@ -61,91 +65,89 @@ fn write_sizes(text: &mut Text, d: &Descriptor) -> fmt::Result {
     };
     let records = Many(d.numrec as usize, "record");
     let bytes = Many(d.recsize as usize, "byte");
-    write!(text, "{kind}{records} of {bytes}")
+    text.put(format_args!("{kind}{records} of {bytes}"));
 }
 
 // What a descriptor says but its access conditions.
-fn write_kind(text: &mut Text, d: &Descriptor) -> fmt::Result {
-    write!(text, "\n  LID '{:04X}'", d.lid)?;
+fn write_kind(text: &mut Text, d: &Descriptor) {
+    let lid = d.lid;
     if d.filetype == DF {
         let state = if d.status % 2 == 0 {
             "validated"
         } else {
             "invalidated"
         };
-        return write!(text, ", DF, {state}");
+        text.put(format_args!("\n  LID '{lid:04X}', DF, {state}"));
+        return;
     }
     match d.sfi {
-        0 => write!(text, ", EF, no SFI")?,
-        sfi => write!(text, ", EF, SFI '{sfi:02X}'")?,
+        0 => text.put(format_args!("\n  LID '{lid:04X}', EF, no SFI")),
+        sfi => text.put(format_args!("\n  LID '{lid:04X}', EF, SFI '{sfi:02X}'")),
     }
-    write_sizes(text, d)
+    write_sizes(text, d);
 }
 
 // Bytes in hexadecimal, as many lines as they need.
-fn write_dump(text: &mut Text, bytes: &[u8]) -> fmt::Result {
+fn write_dump(text: &mut Text, bytes: &[u8]) {
     for line in bytes.chunks(HEX_LINE) {
-        writeln!(text, "      {}", Hex(line))?;
+        text.put(format_args!("      {}\n", Hex(line)));
     }
-    Ok(())
 }
 
 // A record: its place, and the bytes that `shown` gives.
-fn write_record(text: &mut Text, c: &Card, area: &[u8], sfi: u8, nn: u8) -> fmt::Result {
+fn write_record(text: &mut Text, c: &Card, area: &[u8], sfi: u8, nn: u8) {
     let s = call_shown::shown(*c, area, sfi, nn);
     if s.number != 0 {
-        return writeln!(text, "    record {nn} cannot be shown");
+        text.put(format_args!("    record {nn} cannot be shown\n"));
+        return;
     }
-    writeln!(
-        text,
-        "    record {nn}: offset {}, {}",
+    text.put(format_args!(
+        "    record {nn}: offset {}, {}\n",
         s.start,
         Many(s.len, "byte")
-    )?;
-    write_dump(text, call_shown::part_shown(area, s))
+    ));
+    write_dump(text, call_shown::part_shown(area, s));
 }
 
 // What is stored of a file: of a simulated counter DataRef tells where.
-fn write_contents(text: &mut Text, c: &Card, area: &[u8], d: &Descriptor) -> fmt::Result {
+fn write_contents(text: &mut Text, c: &Card, area: &[u8], d: &Descriptor) {
     if d.filetype == DF {
-        return Ok(());
+        return;
     }
     if d.eftype == SIMULATED {
-        return writeln!(
-            text,
-            "    stores nothing: it is counter {} of the counters file with SFI '{:02X}'",
+        text.put(format_args!(
+            "    stores nothing: it is counter {} of the counters file with SFI '{:02X}'\n",
             d.refnum, d.refsfi
-        );
+        ));
+        return;
     }
     if d.sfi == 0 {
-        return writeln!(text, "    no SFI: its records cannot be loaded or shown");
+        text.put("    no SFI: its records cannot be loaded or shown\n");
+        return;
     }
     if d.eftype == BINARY {
-        return write_record(text, c, area, d.sfi, 0);
+        write_record(text, c, area, d.sfi, 0);
+        return;
     }
     for nn in 1..=d.numrec {
-        write_record(text, c, area, d.sfi, nn)?;
+        write_record(text, c, area, d.sfi, nn);
     }
-    Ok(())
 }
 
-pub fn write_table(text: &mut Text, c: &Card, area: &[u8]) -> fmt::Result {
+pub fn write_table(text: &mut Text, c: &Card, area: &[u8]) {
     let l = &c.loading;
     let files = &l.files[..l.count.min(l.files.len())];
-    write!(text, "\n\nFile table: ")?;
     match files.len() {
-        0 => writeln!(text, "none")?,
-        n => writeln!(
-            text,
-            "{}; offsets are those in the file area",
+        0 => text.put("\n\nFile table: none\n"),
+        n => text.put(format_args!(
+            "\n\nFile table: {}; offsets are those in the file area\n",
             Many(n, "descriptor")
-        )?,
+        )),
     }
     for d in files {
-        write_kind(text, d)?;
-        write_accesses(text, d)?;
-        writeln!(text)?;
-        write_contents(text, c, area, d)?;
+        write_kind(text, d);
+        write_accesses(text, d);
+        text.put("\n");
+        write_contents(text, c, area, d);
     }
-    Ok(())
 }

@@ -10,14 +10,7 @@ use facts::write_facts;
 use files::write_table;
 use io_edge::{Arguments, Failure, Label, Page, Source, Status, Voice};
 use io_playing::Ending;
-use model::Card;
-use std::fmt;
 use text::Text;
-
-fn write_card(text: &mut Text, c: &Card, area: &[u8], events: u64) -> fmt::Result {
-    write_facts(text, c, events)?;
-    write_table(text, c, area)
-}
 
 fn show(source: &mut Source, page: Page) -> Result<Status, Failure> {
     let mut area = io_playing::clear_area();
@@ -26,8 +19,8 @@ fn show(source: &mut Source, page: Page) -> Result<Status, Failure> {
     if let Ending::Played(_) = ending {
         let card = card_veiled::veiled(outcome.card);
         let mut text = Text::new(page);
-        // What could not be written the end says.
-        let _ = write_card(&mut text, &card, &area, outcome.events);
+        write_facts(&mut text, &card, outcome.events);
+        write_table(&mut text, &card, &area);
         text.finish()?;
     }
     Ok(Status::from(ending))

@@ -1,16 +1,17 @@
-// What is written: text that goes to standard output line by line, and words that several texts have.
+// What is written: texts that go to standard output one by one, and words that several of them have.
 use io_edge::{Failure, Page};
 use print_forms::Line;
 use std::fmt;
 use std::fmt::{Display, Formatter, Write};
 
-const LINE_SIZE: usize = 4096;
+// No text is longer.
+const TEXT_SIZE: usize = 512;
 
-// What is gathered, and whether all before it went out.
+// A text on its way, and whether all before it went out.
 #[derive(Drop)]
 pub struct Text<'a> {
     page: Page<'a>,
-    line: Line<LINE_SIZE>,
+    line: Line<TEXT_SIZE>,
     sent: Result<(), Failure>,
 }
 
@@ -23,38 +24,18 @@ impl<'a> Text<'a> {
         }
     }
 
-    // Where a write failed, nothing is written behind it.
-    fn flush(&mut self) -> fmt::Result {
+    // One text, by one write: what a pipe takes before its reader comes hangs on how what is written is parted. Where a
+    // write failed, nothing is written behind it.
+    pub fn put<D: Display + Drop>(&mut self, form: D) {
+        self.line.clear();
+        self.line.put_form(form);
         if self.sent.is_ok() {
             self.sent = self.page.print(self.line.as_bytes());
         }
-        self.line.clear();
-        match self.sent {
-            Ok(()) => Ok(()),
-            Err(_) => Err(fmt::Error),
-        }
     }
 
-    // The last of it.
-    pub fn finish(mut self) -> Result<(), Failure> {
-        let _ = self.flush();
+    pub fn finish(self) -> Result<(), Failure> {
         self.sent
-    }
-}
-
-impl Write for Text<'_> {
-    fn write_str(&mut self, s: &str) -> fmt::Result {
-        for part in s.as_bytes().chunks(LINE_SIZE) {
-            if self.line.room() < part.len() {
-                self.flush()?;
-            }
-            self.line.put_text(part);
-        }
-        // A reader that has gone is seen before the last line.
-        if s.as_bytes().contains(&b'\n') {
-            self.flush()?;
-        }
-        Ok(())
     }
 }
 
