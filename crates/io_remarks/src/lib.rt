@@ -11,9 +11,6 @@ const LENGTH_PLACE: usize = 3;
 
 const NUMBER_PLACE: usize = 10;
 
-// A line has its number.
-const _: () = prove!(NUMBER_PLACE < LINE_SIZE);
-
 const ZERO_DIGIT: u8 = b'0';
 
 // So many refused events have a line each; the others are counted.
@@ -63,8 +60,20 @@ fn first_from(r: &[u8], at: usize) -> usize
 }
 
 // Whether a line's number is none.
-fn is_good(line: &[u8]) -> bool {
-    line.get(NUMBER_PLACE) == Some(&ZERO_DIGIT)
+fn is_good(line: &[u8]) -> bool
+    requires { length line.now ≡ 26 }
+{
+    line[NUMBER_PLACE] == ZERO_DIGIT
+}
+
+// Whether so many lines have none. (`all` doesn't know how long a line is.)
+fn are_good(lines: &[u8], count: usize) -> bool {
+    for line in lines.chunks_exact(LINE_SIZE).take(count) {
+        if !is_good(line) {
+            return false;
+        }
+    }
+    true
 }
 
 // How many events there were, and how many of them were refused.
@@ -123,7 +132,7 @@ impl Noted {
         requires { length records.now / 260 * 26 ≤ length lines.now }
     {
         let count = records.len() / RECORD_SIZE;
-        if lines.chunks_exact(LINE_SIZE).take(count).all(is_good) {
+        if are_good(lines, count) {
             self.note_good(count);
             return;
         }
