@@ -3,6 +3,8 @@
 #![tactic(auto)]
 
 ghost use Rattle.std.specs.Prelude.{◌≡◌, ◌+◌, ◌-◌, ◌/◌, ◌<◌, ◌≤◌, [], ◌∷◌, ◌++◌, length, take};
+ghost use Rattle.std.specs.Prelude.{false, slice_index};
+ghost use Rattle.std.specs.Char.{is_ascii_hexdigit};
 ghost use Rattle.print_numbers.specs.Trace.{decimal_of, hex_of};
 
 use std::fmt;
@@ -10,7 +12,7 @@ use std::fmt::{Display, Write};
 use std::marker::Model;
 
 // The most characters of a number.
-const MARK_LIMIT: usize = 20;
+const NUMBER_LIMIT: usize = 20;
 
 // A line, seen as its text so far.
 #[derive(Drop)]
@@ -80,7 +82,7 @@ impl<const N: usize> Line<N> {
         ensures room { length self.old + 20 ≤ N → self.new ≡ self.old ++ decimal_of n }
         ensures cut { N < length self.old + 20 → self.new ≡ self.old }
     {
-        if self.room() < MARK_LIMIT {
+        if self.room() < NUMBER_LIMIT {
             return;
         }
         self.filled = print_numbers::put_number(&mut self.text, self.filled, n);
@@ -99,7 +101,9 @@ impl<const N: usize> Line<N> {
     // A form with its values, by `format_args!`. It is cut off where the room ends, but a number goes in whole or not at
     // all. Nothing that stands there goes.
     pub fn put_form<D: Display + Drop>(&mut self, form: D)
-        ensures { length self.old ≤ length self.new }
+        ensures stays { length self.old ≤ length self.new }
+        ensures whole { length self.old < N → length self.new ≡ N
+            → is_ascii_hexdigit (slice_index self.new (N - 1)) ≡ false }
     {
         let before = self.filled;
         let _ = self.write(form);
@@ -113,7 +117,8 @@ impl<const N: usize> Line<N> {
 
 // How far a text goes without the digits at its end: where there was no more room they may be a part of a number.
 fn whole_in(text: &[u8]) -> usize
-    ensures { result ≤ length text.now }
+    ensures within { result ≤ length text.now }
+    ensures whole { 0 < result → is_ascii_hexdigit (slice_index text.now (result - 1)) ≡ false }
 {
     match text.iter().rposition(|c| !c.is_ascii_hexdigit()) {
         Some(i) => i + 1,

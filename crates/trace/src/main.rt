@@ -2,7 +2,7 @@
 // compare it character by character with the second program's.
 #![tactic(auto)]
 
-ghost use Rattle.std.specs.Prelude.{◌≡◌, ◌+◌, ◌≤◌, length};
+ghost use Rattle.std.specs.Prelude.{◌≡◌, ◌≤◌, length};
 ghost use Rattle.lists.specs.Bytes.{zeros};
 ghost use Rattle.model.specs.Stored.{area_size};
 ghost use Rattle.theorem_sound.specs.Keeps.{Good};
